@@ -1,0 +1,3 @@
+pub mod CircuitLemmas
+pub mod NameLemmas
+pub mod TermLemmas
