@@ -1,0 +1,3 @@
+-- Lemmas on lines and words, which other crates may cite.
+pub mod WordLemmas
+pub mod LineLemmas
