@@ -1,0 +1,25 @@
+//! Sources of bytes and sinks for bytes that count their faults, so that a caller can tell an answer from a failure.
+//!
+//! Reading takes as much memory as it reads, and writing takes none. Nothing here buffers, retries or waits, and the
+//! adapters for files and standard streams tell nothing of what is read or held.
+#![tactic(auto)]
+
+mod err_sink;
+mod faults;
+mod file_sink;
+mod file_source;
+mod mem_sink;
+mod mem_source;
+mod reading;
+#[cfg(test)]
+mod tests;
+mod writing;
+
+pub use err_sink::ErrSink;
+pub use faults::{Failed, ReadAllFault, WriteFault};
+pub use file_sink::FileSink;
+pub use file_source::FileSource;
+pub use mem_sink::MemSink;
+pub use mem_source::MemSource;
+pub use reading::{Source, read_all};
+pub use writing::{Sink, write_all_of};
