@@ -1,0 +1,8 @@
+use Rattle.std.proofs.Common.{[], ◌∷◌}
+use Rattle.qh_ring.specs.Matrices.{number_in}
+use Rattle.qh_kernel.proofs.PlaceLemmas.{rank2}
+use Rattle.qh_kernel.proofs.DoneLemmas.{IsDone}
+use Rattle.qh_kernel.proofs.kernels.apply2.Given as goal
+
+abbrev pub invariant-loop-p : goal.invariant-loop-p
+invariant-loop-p l = IsDone (number_in l.m.rows) (l.q0 ∷ l.q1 ∷ []) (rank2 l.near l.far) l.initial.v l.v l.p
