@@ -1,0 +1,3 @@
+-- Lemmas on whole states, which crates above may cite.
+pub mod EvolutionLemmas
+pub mod BoundLemmas

@@ -1,0 +1,16 @@
+//! The whole state of a circuit that is not cut: after every gate, 2^n exact numbers, or the first gate that no longer fits.
+//!
+//! It takes 64 bytes a number once, and goes over the numbers once a gate, less where a gate leaves some as they
+//! are. It scales nothing by 1/√2, reads no text and knows nothing of cuts and paths.
+#![tactic(auto)]
+
+mod evolution;
+mod fault;
+mod laws;
+
+pub use evolution::evolve;
+pub use fault::UncutFault;
+pub use laws::each_gate_at_most_doubles;
+
+#[cfg(test)]
+mod tests;
