@@ -1,0 +1,2 @@
+-- The definitions that contracts cite: a half state, and what a matrix makes of it.
+pub mod Halves

@@ -1,0 +1,139 @@
+//! A half state.
+ghost use Rattle.std.specs.Prelude.{◌≡◌, ◌≢◌, ◌≤◌, ◌<◌, ◌+◌, ◌^◌, [], ◌∷◌, IfOk, IfSome, IsSome, IsNone, OnOk, OnErr, IsTrue, ◌↔◌, Some};
+ghost use Rattle.qh_ring.specs.Numbers.{IsWithin};
+ghost use Rattle.qh_ring.specs.Matrices.{number_in};
+ghost use Rattle.qh_ring.specs.States.{at_index, listed, ground};
+ghost use Rattle.qh_kernel.specs.Rows.{are_single};
+
+use qh_kernel::{Over, apply1, apply2, ground_vector};
+use qh_ring::{Mat2, Mat4, Omega};
+use qh_steps::Steps;
+use std::alloc::{AllocError, Global};
+use std::marker::Model;
+use std::sync::ledger::Ledger;
+
+/// The state of at most 20 qubits, or one that is over: a coefficient's magnitude came to 2^126. Qubit q is bit q of
+/// an index. Contracts see the number of qubits and the list of numbers, or none where it is over.
+#[derive(Drop)]
+pub struct Half {
+    qubits: u32,
+    over: bool,
+    numbers: Vec<Omega>,
+}
+
+impl Model for Half {
+    ghost use Rattle.std.specs.Prelude.{Some, None, if◌then◌else◌};
+    ghost use Rattle.qh_half.specs.Halves.{Half, IsKept};
+
+    ghost Value = { Half };
+
+    ghost view = { λ h. record { qubits = h.qubits; numbers = if h.over then None else Some h.numbers.items } };
+
+    ghost invariant = { λ h. IsKept h.qubits h.over h.numbers.items };
+}
+
+impl Half {
+    ghost use Rattle.qh_half.specs.Halves.{IsHalf, AfterMatrix};
+
+    /// The half of 1 to 20 qubits with 1 at index 0 and 0 elsewhere. It takes 64 bytes a number.
+    pub fn ground(alloc: Global, qubits: u32) -> Result<Half, AllocError>
+        requires some { 1 ≤ qubits }
+        requires few { qubits ≤ 20 }
+        ensures { IfOk result (λ h. h ≡ record { qubits = qubits; numbers = Some (listed qubits ground) }) }
+    {
+        let numbers = ground_vector(alloc, qubits)?;
+        Ok(Half {
+            qubits,
+            over: false,
+            numbers,
+        })
+    }
+
+    /// The number of qubits.
+    pub fn qubits(&self) -> u32
+        ensures value { result ≡ self.now.qubits }
+        ensures valid { IsHalf self.now }
+    {
+        self.qubits
+    }
+
+    /// Whether a coefficient's magnitude has come to 2^126.
+    pub fn is_over(&self) -> bool
+        ensures value { IsTrue result ↔ IsNone self.now.numbers }
+        ensures valid { IsHalf self.now }
+    {
+        self.over
+    }
+
+    /// The number at an index, of a half that is not over.
+    pub fn at(&self, index: u32) -> Omega
+        requires held { IsSome self.now.numbers }
+        requires index { index < 2 ^ self.now.qubits }
+        ensures value { IfSome self.now.numbers (λ v. result ≡ at_index v index) }
+        ensures bounded { IsWithin 126 result }
+    {
+        self.numbers[index as usize]
+    }
+
+    /// Applies the matrix to qubit `q`, which is one step. It is Over exactly where the half was over already or a new
+    /// coefficient's magnitude is 2^126 or more, and the half is over from then on.
+    pub fn apply1<L: Ledger>(&mut self, m: &Mat2, q: u32, steps: &mut Steps<L>) -> Result<(), Over>
+        requires { q < self.old.qubits }
+        ensures qubits { self.new.qubits ≡ self.old.qubits }
+        ensures numbers { AfterMatrix (number_in m.now.rows) (q ∷ []) self.old.numbers self.new.numbers }
+        ensures ok { OnOk result (IsSome self.new.numbers) }
+        ensures over { OnErr result (IsNone self.new.numbers) }
+        ensures step { steps.new ≡ steps.old + 1 }
+    {
+        steps.tick();
+        if self.over {
+            return Err(Over);
+        }
+        match apply1(&mut self.numbers, self.qubits, m, q) {
+            Ok(()) => Ok(()),
+            Err(over) => {
+                self.over = true;
+                Err(over)
+            }
+        }
+    }
+
+    /// Applies the matrix to the distinct qubits `q0` and `q1`, which is one step. Each row of the matrix has at most one
+    /// entry other than Zero, so it is Over exactly where the half was over already.
+    pub fn apply2<L: Ledger>(
+        &mut self,
+        m: &Mat4,
+        q0: u32,
+        q1: u32,
+        steps: &mut Steps<L>,
+    ) -> Result<(), Over>
+        requires first { q0 < self.old.qubits }
+        requires second { q1 < self.old.qubits }
+        requires apart { q0 ≢ q1 }
+        requires single { IsTrue (are_single m.now.rows) }
+        ensures qubits { self.new.qubits ≡ self.old.qubits }
+        ensures numbers { AfterMatrix (number_in m.now.rows) (q0 ∷ q1 ∷ []) self.old.numbers self.new.numbers }
+        ensures kept { IsSome self.old.numbers → IsSome self.new.numbers }
+        ensures ok { OnOk result (IsSome self.new.numbers) }
+        ensures over { OnErr result (IsNone self.new.numbers) }
+        ensures step { steps.new ≡ steps.old + 1 }
+    {
+        steps.tick();
+        if self.over {
+            return Err(Over);
+        }
+        apply2(&mut self.numbers, self.qubits, m, q0, q1);
+        Ok(())
+    }
+
+    /// Becomes the other half, of as many qubits: its numbers, or its being over.
+    pub fn copy_from(&mut self, other: &Half)
+        requires { self.old.qubits ≡ other.now.qubits }
+        ensures { self.new ≡ other.now }
+    {
+        self.over = other.over;
+        if !other.over {
+            self.numbers.copy_from_slice(&other.numbers);
+        }
+    }
+}
