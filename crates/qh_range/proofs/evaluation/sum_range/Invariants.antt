@@ -1,0 +1,14 @@
+use Rattle.std.proofs.Common.{◌+◌, ◌*◌, ◌≤◌}
+use Rattle.qh_range.specs.declared.part.Part.TheVariants as Parts
+use Rattle.qh_range.specs.Parts.{path_steps}
+use Rattle.qh_range.specs.Sides.{IsSide}
+use Rattle.qh_range.proofs.ValueLemmas.{IsSummed}
+use Rattle.qh_range.proofs.evaluation.sum_range.Given as goal
+
+abbrev pub invariant-loop-k : goal.invariant-loop-k
+invariant-loop-k g l = record {
+  one : IsSide Parts.One l.job l.one;
+  two : IsSide Parts.Two l.job l.two;
+  summed : IsSummed l.job l.first l.k l.sums.items;
+  steps : l.steps ≤ l.initial.steps + l.k * path_steps l.job;
+}

@@ -1,0 +1,73 @@
+//! What one path contributes.
+ghost use Rattle.std.specs.Prelude.{◌≡◌, ◌+◌, ◌<◌, ◌≤◌, All, IsSome, Bool, length, map};
+ghost use Rattle.std.specs.List.{list_all};
+ghost use Rattle.qh_ring.specs.Numbers.{IsWithin, product};
+ghost use Rattle.qh_plan.specs.Jobs.{paths};
+ghost use Rattle.qh_plan.specs.Parts.{local_index};
+ghost use Rattle.qh_plan.specs.Verdicts.{added};
+ghost use Rattle.qh_meaning.specs.Halves.{contribution};
+ghost use Rattle.qh_meaning.specs.Limits.{are_narrow, path_fits};
+ghost use Rattle.qh_range.specs.Parts.{path_steps};
+ghost use Rattle.qh_range.specs.Sides.{IsSide, number_at};
+ghost use Rattle.qh_range.specs.declared.part.Part.TheVariants as Parts;
+
+use crate::part::Part;
+use crate::side::{Side, run_half};
+use qh_plan::Job;
+use qh_ring::{Omega, add_bounded, mul_checked};
+use qh_steps::Steps;
+use std::sync::ledger::Ledger;
+
+/// Adds to each sum the product of the two halves at its bitstring. It is false where one of them is too wide.
+fn add_products(sums: &mut [Omega], job: &Job, one: &Side, two: &Side) -> bool
+    requires one { IsSide Parts.One job.now one.now }
+    requires two { IsSide Parts.Two job.now two.now }
+    requires one_held { IsSome one.now.half.numbers }
+    requires two_held { IsSome two.now.half.numbers }
+    requires same_length { length sums.old ≡ length job.now.bits }
+    requires bounded { All (IsWithin 126) sums.old }
+    ensures fits { result ≡ list_all (λ b. are_narrow (number_at Parts.One job.now one.now.half.numbers b) (number_at Parts.Two job.now two.now.half.numbers b)) job.now.bits }
+    ensures sums { result ≡ Bool.true → sums.new ≡ added sums.old (map (λ b. product (number_at Parts.One job.now one.now.half.numbers b) (number_at Parts.Two job.now two.now.half.numbers b)) job.now.bits) }
+{
+    for i in 0..sums.len() {
+        let x = one.half.at(one.indices[i]);
+        let y = two.half.at(two.indices[i]);
+        let Ok(product) = mul_checked(&x, &y) else {
+            return false;
+        };
+        sums[i] = add_bounded(&sums[i], &product);
+    }
+    true
+}
+
+/// Adds what a path contributes. It is false where the path is over, and runs part 2 only where part 1 is not over.
+pub(crate) fn add_path<L: Ledger>(
+    job: &Job,
+    path: u64,
+    one: &mut Side,
+    two: &mut Side,
+    sums: &mut [Omega],
+    steps: &mut Steps<L>,
+) -> bool
+    requires below { path < paths job.now }
+    requires one { IsSide Parts.One job.now one.old }
+    requires two { IsSide Parts.Two job.now two.old }
+    requires same_length { length sums.old ≡ length job.now.bits }
+    requires bounded { All (IsWithin 126) sums.old }
+    ensures fits { result ≡ path_fits job.now path }
+    ensures sums { result ≡ Bool.true → sums.new ≡ added sums.old (map (contribution job.now path) job.now.bits) }
+    ensures one { IsSide Parts.One job.now one.new }
+    ensures two { IsSide Parts.Two job.now two.new }
+    ensures steps { steps.new ≤ steps.old + path_steps job.now }
+{
+    let digits = job.digits(path);
+    run_half(&mut one.half, &one.start, job, Part::One, &digits, steps);
+    if one.half.is_over() {
+        return false;
+    }
+    run_half(&mut two.half, &two.start, job, Part::Two, &digits, steps);
+    if two.half.is_over() {
+        return false;
+    }
+    add_products(sums, job, one, two)
+}
