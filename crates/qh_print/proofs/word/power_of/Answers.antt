@@ -1,0 +1,16 @@
+use Rattle.std.proofs.Common.{sym, ap, ◌∙◌, decimal, Ok, ℕ}
+use Rattle.std.proofs.lemmas.Slice.Eq.{slice_eq-Decides}
+use Rattle.std.proofs.lemmas.Bool.{false≢true}
+use Rattle.std.proofs.lemmas.Bool.Decides.{Decides-eqb}
+use Rattle.qh_print.proofs.Words.{utf8_decimal, parsed, ok_same}
+use Rattle.qh_print.proofs.word.power_of.Goals as goal
+
+pub returns-in_default-clause-only : goal.returns-in_default-clause-only
+returns-in_default-clause-only c = λ n l e. absurd (c.in_default.ensures.cases.0 (utf8_decimal n c.args.word.now l e))
+
+pub returns-else-eq-clause-only : goal.returns-else-eq-clause-only
+returns-else-eq-clause-only c = λ n l e.
+    let number = ok_same {E = ℕ} c.in-Ok-parse.power n (parsed n c.in-Ok.text.now (Ok c.in-Ok-parse.power) l (c.in-Ok.ensures.cases.0 ∙ e) c.in-Ok-parse.ensures.value.0) in
+    let spelled = c.as_bytes.ensures.value ∙ c.format.ensures.text ∙ ap decimal number ∙ sym e in
+    let yes = (slice_eq-Decides Decides-eqb c.as_bytes.result.now c.args.word.now c.eq.result c.eq.ensures).1 spelled in
+    absurd (false≢true (sym c.if-eq.false ∙ yes))
