@@ -1,0 +1,4 @@
+pub mod RunLemmas
+mod LineLemmas
+mod SolveLemmas
+mod TotalLemmas

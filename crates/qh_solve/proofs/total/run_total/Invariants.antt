@@ -1,0 +1,8 @@
+use Rattle.std.proofs.Common.{◌≡◌}
+use Rattle.std.specs.Arc.{arc_value}
+use Rattle.qh_plan.specs.declared.verdict.Verdict.TheVariants.{Sum}
+use Rattle.qh_solve.specs.Totals.{total_of}
+use Rattle.qh_solve.proofs.total.run_total.Given as goal
+
+abbrev pub invariant-loop-range : goal.invariant-loop-range
+invariant-loop-range g l = total_of (arc_value l.job) l.range ≡ Sum l.sums.items
