@@ -1,0 +1,4 @@
+pub mod CircuitLemmas
+pub mod PairLemmas
+pub mod LayerLemmas
+pub mod StepLemmas
