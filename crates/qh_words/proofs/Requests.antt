@@ -1,0 +1,51 @@
+-- From the matches to the options that the words ask for.
+use Rattle.std.proofs.Common.{◌≡◌, ◌≢◌, ◌∙◌, ◌&&◌, ◌==◌, Bool, true, false, List, [], ◌∷◌, length, Option, Some, None, refl, sym, ap, subst, codes, arith}
+use Rattle.std.specs.Prelude.{if◌then◌else◌}
+use Rattle.std.specs.Option.{IfSome}
+use Rattle.std.proofs.lemmas.Bool.{eqb-true, false_from_ne_true}
+use Rattle.std.proofs.lemmas.Option.{cond_some}
+use Rattle.clap.specs.Words.{Text, HasMatchesOf, fault_of}
+use Rattle.clap.specs.declared.parser.matches.ArgMatches.{ArgMatches}
+use Rattle.qh_words.specs.Command.{command, given, is_taken, program, value_in}
+use Rattle.qh_words.specs.Request.{Values, asked, has_cut, has_numbers, has_source, options_by, options_of}
+use Rattle.qh_words.specs.Size.{IsGenSize}
+use Rattle.qh_words.specs.declared.options.Options.{Options}
+use Rattle.qh_words.proofs.Simple.{values}
+use Rattle.qh_words.proofs.Sizes.{sized_option}
+
+-- no options without a source
+pub no_source : (numbers source cut : Bool) (o : Options) → source ≡ false
+    → (if numbers && source && cut then Some o else None) ≡ None
+no_source true source cut o e = rw e refl
+no_source false source cut o e = refl
+
+-- the values among the matches are those that the words give
+same_values : (m : ArgMatches) (words : List Text) → HasMatchesOf command (program ∷ words) m → value_in m ≡ given words
+same_values m words h = λ i. λ letter. values m (program ∷ words) letter h i
+
+-- what the matches ask for is what the words ask for
+pub by_matches : (m : ArgMatches) (words : List Text) (o : Option Options)
+    → fault_of command (program ∷ words) ≡ [] → HasMatchesOf command (program ∷ words) m
+    → options_by (value_in m) ≡ o → options_of words ≡ o
+unfolding options_of
+by_matches m words o taken h by =
+    let is : is_taken words ≡ true = rw taken refl in
+    let same : options_by (given words) ≡ o = ap options_by (sym (same_values m words h)) ∙ by in
+    rw is same
+
+empty_length : {X : Type 0} (xs : List X) → (length xs == 0) ≡ true → xs ≡ []
+empty_length [] e = refl
+empty_length (x ∷ xs) e = let none : length (x ∷ xs) ≡ 0 = eqb-true _ 0 e in absurd (omega arith)
+
+-- words that `clap` refuses ask for nothing
+pub refused : (words : List Text) → fault_of command (program ∷ words) ≢ [] → options_of words ≡ None
+unfolding options_of
+refused words fault =
+    let not_taken : is_taken words ≡ false = false_from_ne_true _ (λ e. fault (empty_length _ e)) in
+    rw not_taken refl
+
+-- the size among the options is in its range
+pub has_size : (value : Values) (o : Options) → options_by value ≡ Some o → IfSome o.generated IsGenSize
+has_size value o h =
+    let found = cond_some (has_numbers value && has_source value && has_cut value) (asked value) o h in
+    subst (λ (q : Options). IfSome q.generated IsGenSize) found.1 (sized_option (value (codes "g")))

@@ -1,0 +1,94 @@
+//! The command line as `clap` reads it.
+
+ghost use Rattle.std.specs.Prelude.{◌≡◌, ◌≢◌, ◌∷◌, [], IfOk, OnOk, fold, map};
+ghost use Rattle.std.specs.Option.{option_copied};
+ghost use Rattle.clap.specs.Words.{HasMatchesOf, app_of, fault_of};
+ghost use Rattle.qh_words.specs.Command.{command, value_in, with_letter};
+
+use crate::fault::WordsFault;
+use clap::error::ErrorKind;
+use clap::{Arg, ArgAction, ArgMatches, Command};
+use std::alloc::{AllocError, Global};
+
+/// The options, each of which has a value: the name by which the matches know it, and its letter.
+const OPTIONS: [(&str, char); 10] = [
+    ("c", 'c'),
+    ("i", 'i'),
+    ("d", 'd'),
+    ("k", 'k'),
+    ("p", 'p'),
+    ("r", 'r'),
+    ("w", 'w'),
+    ("o", 'o'),
+    ("v", 'v'),
+    ("g", 'g'),
+];
+
+/// The matches of the words, whose first is the program's name.
+#[tactic(auto, using(crate::proofs::Simple::free))]
+pub fn matches<'a>(alloc: Global, words: &'a [&'a str]) -> Result<ArgMatches<'a>, WordsFault>
+    ensures taken { OnOk result (fault_of command (map (λ s. s.now) words.now) ≡ []) }
+    ensures matches { IfOk result (HasMatchesOf command (map (λ s. s.now) words.now)) }
+    ensures usage { result ≡ Err WordsFault.Usage → fault_of command (map (λ s. s.now) words.now) ≢ [] }
+{
+    let Ok(command) = command_line(alloc) else {
+        return Err(WordsFault::Memory);
+    };
+    match command.try_get_matches_from(words) {
+        Ok(matches) => Ok(matches),
+        Err(error) => {
+            if error.kind() == ErrorKind::OutOfMemory {
+                Err(WordsFault::Memory)
+            } else {
+                Err(WordsFault::Usage)
+            }
+        }
+    }
+}
+
+/// The value of an option, by its letter.
+pub fn value<'a>(matches: &ArgMatches<'a>, letter: &str) -> Option<&'a str>
+    ensures { option_copied result ≡ value_in matches.now letter.now }
+{
+    matches.get_str(letter)
+}
+
+/// The command with its options.
+#[tactic(auto, unfolding(crate::specs::Command::command))]
+fn command_line<'a>(alloc: Global) -> Result<Command<'a>, AllocError>
+    ensures { IfOk result (λ c. app_of c ≡ command) }
+{
+    let command = Command::new(alloc, "qsimh_amplitudes");
+    with_options(alloc, command, &OPTIONS)
+}
+
+/// The command with these options too, each of which is named by its letter.
+fn with_options<'a>(
+    alloc: Global,
+    command: Command<'a>,
+    options: &[(&'a str, char)],
+) -> Result<Command<'a>, AllocError>
+    requires { map (λ o. o.0.now) options.now ≡ map (λ o. o.1 ∷ []) options.now }
+    ensures { let letters = map (λ o. o.1) options.now in
+        IfOk result (λ c. app_of c ≡ fold with_letter (app_of command.entry) letters) }
+{
+    let mut command = command;
+    for (name, letter) in options {
+        command = with_option(alloc, command, name, *letter)?;
+    }
+    Ok(command)
+}
+
+/// The command with an option more.
+fn with_option<'a>(
+    alloc: Global,
+    command: Command<'a>,
+    name: &'a str,
+    letter: char,
+) -> Result<Command<'a>, AllocError>
+    requires { name.now ≡ letter ∷ [] }
+    ensures { IfOk result (λ c. app_of c ≡ with_letter (app_of command.entry) letter) }
+{
+    let option = Arg::new(alloc, name).short(letter).action(ArgAction::Set);
+    command.arg(option)
+}
