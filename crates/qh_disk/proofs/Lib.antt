@@ -1,0 +1,5 @@
+mod Events
+pub mod Moments
+mod Pending
+mod Replay
+pub mod Rules

@@ -1,0 +1,7 @@
+pub mod Disk
+pub mod Event
+pub mod File
+pub mod History
+pub mod Inside
+pub mod Moments
+pub mod Plan
