@@ -1,0 +1,6 @@
+pub mod Count
+pub mod Lease
+pub mod Marks
+pub mod Register
+pub mod Tally
+pub mod TimerState

@@ -1,0 +1,86 @@
+ghost use Rattle.std.specs.Prelude.{◌≡◌, ◌≤◌, drop, slice_index_or, false, IfOk};
+ghost use Rattle.std.specs.Bool.{OnTrue, OnFalse};
+ghost use Rattle.qh_lease.specs.Count.{Rose};
+
+use crate::timer::Timer;
+use crate::timer_counts::TimerCounts;
+use std::alloc::{AllocError, Global};
+use std::marker::Model;
+
+/// A timer that gives the answers of a list in turn, and "not due" after them.
+#[derive(Debug, Drop)]
+pub struct ScriptTimer {
+    answers: Vec<bool>,
+    next: usize,
+    counts: TimerCounts,
+}
+
+impl Model for ScriptTimer {
+    ghost use Rattle.std.specs.Prelude.{◌≤◌, drop, length};
+    ghost use Rattle.qh_lease.specs.TimerState.{Script};
+
+    ghost Value = { Script };
+
+    ghost view = { λ t. record { answers = drop t.next t.answers.items; granted = t.counts.granted; due = t.counts.due; not_due = t.counts.not_due } };
+
+    ghost invariant = { λ t. t.next ≤ length t.answers.items };
+}
+
+impl ScriptTimer {
+    /// A timer with these answers. It fails for want of memory alone.
+    pub fn new(alloc: Global, answers: &[bool]) -> Result<ScriptTimer, AllocError>
+        ensures { IfOk result (λ timer. timer.answers ≡ answers.now) }
+    {
+        Ok(ScriptTimer {
+            answers: Vec::from_slice(alloc, answers)?,
+            next: 0,
+            counts: TimerCounts::new(),
+        })
+    }
+
+    // The next answer of the list, "not due" after its end.
+    fn take_answer(&mut self) -> bool
+        ensures first { result ≡ slice_index_or self.old.answers 0 false }
+        ensures rest { self.new ≡ record self.old { answers = drop 1 self.old.answers } }
+    {
+        if self.next < self.answers.len() {
+            self.next += 1;
+            self.answers[self.next - 1]
+        } else {
+            false
+        }
+    }
+}
+
+impl Timer for ScriptTimer {
+    ghost granted_count = { λ t. t.granted };
+
+    ghost due_count = { λ t. t.due };
+
+    ghost not_due_count = { λ t. t.not_due };
+
+    /// Hears of a grant, which changes no answer.
+    fn granted(&mut self, _range: u32, _attempt: u32)
+        ensures granted { Rose self.old.granted self.new.granted }
+        ensures due { self.new.due ≡ self.old.due }
+        ensures not_due { self.new.not_due ≡ self.old.not_due }
+        ensures answers { self.new.answers ≡ self.old.answers }
+    {
+        self.counts.count_granted();
+    }
+
+    /// The next answer of the list, whichever lease is asked for.
+    fn due(&mut self, _range: u32, _attempt: u32) -> bool
+        ensures granted { self.new.granted ≡ self.old.granted }
+        ensures due { OnTrue result (Rose self.old.due self.new.due) }
+        ensures not_due { OnFalse result (Rose self.old.not_due self.new.not_due) }
+        ensures due_kept { self.old.due ≤ self.new.due }
+        ensures not_due_kept { self.old.not_due ≤ self.new.not_due }
+        ensures answer { result ≡ slice_index_or self.old.answers 0 false }
+        ensures answers { self.new.answers ≡ drop 1 self.old.answers }
+    {
+        let due = self.take_answer();
+        self.counts.count_answer(due);
+        due
+    }
+}

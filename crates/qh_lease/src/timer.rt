@@ -1,0 +1,32 @@
+ghost use Rattle.std.specs.Prelude.{◌≡◌, ℕ, ◌≤◌};
+ghost use Rattle.std.specs.Bool.{OnTrue, OnFalse};
+ghost use Rattle.qh_lease.specs.Count.{Rose};
+
+/// What says that a lease has lasted too long. It may answer anything.
+///
+/// It counts the grants that it was told and the answers of each kind that it gave. Each count is a `u64`
+/// that stays at its last value, and none falls.
+pub trait Timer {
+    /// How often it was told of a grant.
+    ghost granted_count: { Self → ℕ };
+
+    /// How often it answered "due".
+    ghost due_count: { Self → ℕ };
+
+    /// How often it answered "not due".
+    ghost not_due_count: { Self → ℕ };
+
+    /// Hears that a range was granted, for the `attempt`-th time.
+    fn granted(&mut self, range: u32, attempt: u32)
+        ensures granted { Rose (granted_count self.old) (granted_count self.new) }
+        ensures due { due_count self.new ≡ due_count self.old }
+        ensures not_due { not_due_count self.new ≡ not_due_count self.old };
+
+    /// Whether the lease of a range by this attempt has lasted too long.
+    fn due(&mut self, range: u32, attempt: u32) -> bool
+        ensures granted { granted_count self.new ≡ granted_count self.old }
+        ensures due { OnTrue result (Rose (due_count self.old) (due_count self.new)) }
+        ensures not_due { OnFalse result (Rose (not_due_count self.old) (not_due_count self.new)) }
+        ensures due_kept { due_count self.old ≤ due_count self.new }
+        ensures not_due_kept { not_due_count self.old ≤ not_due_count self.new };
+}

@@ -1,0 +1,7 @@
+/// How many grants, give-backs and acknowledgements were counted.
+#[derive(Clone, Copy, Debug, PartialEq, Eq)]
+pub struct Totals {
+    pub grants: u64,
+    pub backs: u64,
+    pub acks: u64,
+}
