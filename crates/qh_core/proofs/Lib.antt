@@ -1,0 +1,5 @@
+pub mod KeptSlots
+pub mod LeaseLaw
+pub mod Once
+pub mod Replaced
+pub mod Steps
