@@ -1,0 +1,4 @@
+pub mod Saying
+pub mod Causes
+pub mod Values
+mod FirstIndices

@@ -1,0 +1,60 @@
+-- The text that is asked for.
+use Rattle.std.specs.Prelude.{◌≡◌, ℕ, ◌≤◌, List, [], ◌∷◌, ◌++◌, length, map, codes, decimal, Option, Some, None}
+use Rattle.qh_gates.specs.Circuits.{Circuit, total_weight}
+use Rattle.qh_gates.specs.Evolution.{uncut, NeverOver}
+use Rattle.qh_plan.specs.Items.{items_of, AreNumbers}
+use Rattle.qh_plan.specs.Jobs.{Job, crossing, ranges}
+use Rattle.qh_plan.specs.Plans.{first_fault, job_of}
+use Rattle.qh_meaning.specs.Asked.{asked}
+use Rattle.qh_meaning.specs.Laws.{NoneOver}
+use Rattle.qh_print.specs.Output.{IsText, word_of}
+use Rattle.qh_words.specs.declared.options.Options.{Options}
+use Rattle.qh_words.specs.declared.size.GenSize.{GenSize}
+
+-- gen n g K c r: the numbers of qubits, gates, scaled gates, crossing gates and ranges
+unfoldable pub gen_line : Circuit → ℕ → ℕ → List ℕ
+gen_line c crossing_gates range_count =
+    codes "gen" ++ word_of (decimal c.qubits) ++ word_of (decimal (length c.gates)) ++ word_of (decimal (total_weight c.gates))
+    ++ word_of (decimal crossing_gates) ++ word_of (decimal range_count) ++ 10 ∷ []
+
+-- this line stands first where the circuit is generated
+abbrev pub head_text : Option GenSize → Circuit → ℕ → ℕ → List ℕ
+head_text None c crossing_gates range_count = []
+head_text (Some size) c crossing_gates range_count = gen_line c crossing_gates range_count
+
+-- the amplitudes of an uncut circuit of at most 16 qubits, none of whose coefficients reaches 2^126
+pub record IsUncutAnswer (generated : Option GenSize) (c : Circuit) (xs text : List ℕ) : Type 0 where
+  pub narrow : c.qubits ≤ 16
+  pub never : NeverOver c
+  pub lines : List ℕ
+  pub are_lines : IsText c.qubits (total_weight c.gates) xs (map (uncut c.gates) xs) lines
+  pub text_is : text ≡ head_text generated c 0 0 ++ lines
+
+-- the job that a part and the options plan
+pub record IsPlannedJob (o : Options) (part : List ℕ) (c : Circuit) (xs : List ℕ) (j : Job) : Type 0 where
+  pub items : List ℕ
+  pub numbers : AreNumbers (items_of part) items
+  pub accepted : first_fault c items o.p o.r o.w xs ≡ None
+  pub job : j ≡ job_of c items o.p o.r o.w xs
+
+-- the lines of the amplitudes that a job asks for, behind the first line where the circuit is generated
+pub record IsJobText (generated : Option GenSize) (j : Job) (text : List ℕ) : Type 0 where
+  pub lines : List ℕ
+  pub are_lines : IsText j.circuit.qubits (total_weight j.circuit.gates) j.bits (map (asked j) j.bits) lines
+  pub text_is : text ≡ head_text generated j.circuit (crossing j) (ranges j) ++ lines
+
+-- the text of the job that is planned, none of whose paths is over
+pub record IsCutAnswer (o : Options) (part : List ℕ) (c : Circuit) (xs text : List ℕ) : Type 0 where
+  pub job : Job
+  pub planned : IsPlannedJob o part c xs job
+  pub none : NoneOver job
+  pub text_is : IsJobText o.generated job text
+
+-- with a part 1 the circuit is cut, and else it is not
+abbrev pub IsAnswerBy : Option (List ℕ) → Options → Circuit → List ℕ → List ℕ → Type 0
+IsAnswerBy None o c xs text = IsUncutAnswer o.generated c xs text
+IsAnswerBy (Some part) o c xs text = IsCutAnswer o part c xs text
+
+-- the text that the options ask for of a circuit at these indices
+abbrev pub IsAnswer : Options → Circuit → List ℕ → List ℕ → Type 0
+IsAnswer o c xs text = IsAnswerBy o.part o c xs text

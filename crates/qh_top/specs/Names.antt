@@ -1,0 +1,9 @@
+-- The files that the words of a request name.
+use Rattle.std.specs.Prelude.{◌≡◌}
+use Rattle.qh_words.specs.declared.options.Options.{Options}
+use Rattle.qh_top.specs.declared.names.Names.{Names}
+
+pub record AreNames (o : Options) (names : Names) : Type 0 where
+  pub circuit : names.circuit ≡ o.circuit
+  pub bits : names.bits ≡ o.bits
+  pub out : names.out ≡ o.out

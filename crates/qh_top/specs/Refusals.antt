@@ -1,0 +1,58 @@
+-- When a request is refused.
+use Rattle.std.specs.Prelude.{◌≡◌, ℕ, ◌^◌, ◌<◌, ◌⊎◌, List, length, Option, Some, None}
+use Rattle.qh_gates.specs.Circuits.{Circuit}
+use Rattle.qh_plan.specs.Items.{items_of, AreNumbers, IsItemFault}
+use Rattle.qh_plan.specs.Plans.{first_fault}
+use Rattle.qh_plan.specs.declared.fault.PlanFault.{PlanFault}
+use Rattle.qh_plan.specs.declared.fault.PlanFault.TheVariants.{UncutTooWide as Wide}
+use Rattle.qh_words.specs.declared.options.Options.{Options}
+use Rattle.qh_words.specs.declared.size.GenSize.{GenSize}
+use Rattle.qh_top.specs.Seen.{Seen, Rises}
+use Rattle.qh_top.specs.Inputs.{IsCircuitFile, IsBitsFile, IsFaultyCircuit, AreFaultyBits, circuit_by, first_indices}
+use Rattle.qh_top.specs.declared.stop.Refusal.{Refusal}
+use Rattle.qh_top.specs.declared.stop.Refusal.TheVariants.{CircuitTooLong, CircuitLine, BitsTooLong, BitsLine, Plan}
+
+-- Without a cut the circuit is too wide; with one the text of part 1 is faulty, or else the plan has this first fault.
+abbrev pub PlanRefusesBy : Option (List ℕ) → Options → Circuit → List ℕ → PlanFault → Type 0
+PlanRefusesBy None o c xs fault = (fault ≡ Wide c.qubits) × (16 < c.qubits)
+PlanRefusesBy (Some part) o c xs fault =
+    IsItemFault (items_of part) fault ⊎ ((items : List ℕ) × AreNumbers (items_of part) items × (first_fault c items o.p o.r o.w xs ≡ Some fault))
+
+abbrev pub PlanRefuses : Options → Circuit → List ℕ → PlanFault → Type 0
+PlanRefuses o c xs fault = PlanRefusesBy o.part o c xs fault
+
+-- A refusal of two files, by what the sources hold. Told says what is claimed of a source's content: IfSome claims nothing
+-- where it is not told, and IsSomeAnd claims that it is told.
+abbrev pub FilesRefuse : (Option (List ℕ) → (List ℕ → Type 0) → Type 0) → Options → Refusal → Option (List ℕ) → Option (List ℕ) → Type 0
+FilesRefuse Told o CircuitTooLong circuit bits = Told circuit (λ bytes. 2 ^ 20 < length bytes)
+FilesRefuse Told o (CircuitLine line why) circuit bits = Told circuit (IsFaultyCircuit o.max_time line why)
+FilesRefuse Told o BitsTooLong circuit bits = Told circuit (λ text. (c : Circuit) × IsCircuitFile o.max_time c text × Told bits (λ bytes. 2 ^ 18 < length bytes))
+FilesRefuse Told o (BitsLine line why) circuit bits = Told circuit (λ text. (c : Circuit) × IsCircuitFile o.max_time c text × Told bits (AreFaultyBits c line why))
+FilesRefuse Told o (Plan fault) circuit bits =
+    Told circuit (λ text. (c : Circuit) × IsCircuitFile o.max_time c text × Told bits (λ bytes. (xs : List ℕ) × IsBitsFile c xs bytes × PlanRefuses o c xs fault))
+
+-- a refusal of a generated circuit
+abbrev pub SizeRefuses : Options → GenSize → Refusal → Type 0
+SizeRefuses o size (Plan fault) = PlanRefuses o (circuit_by size) (first_indices (circuit_by size).qubits) fault
+SizeRefuses o size _ = ⊥
+
+abbrev pub RefusesBy : Option GenSize → (Option (List ℕ) → (List ℕ → Type 0) → Type 0) → Options → Refusal → Option (List ℕ) → Option (List ℕ) → Type 0
+RefusesBy None Told o r circuit bits = FilesRefuse Told o r circuit bits
+RefusesBy (Some size) Told o r circuit bits = SizeRefuses o size r
+
+abbrev pub Refuses : (Option (List ℕ) → (List ℕ → Type 0) → Type 0) → Options → Refusal → Option (List ℕ) → Option (List ℕ) → Type 0
+Refuses Told o r circuit bits = RefusesBy o.generated Told o r circuit bits
+
+-- one of the sources that a refusal of files rests on rose its count
+abbrev pub FilesReading : Seen → Seen → Refusal → Type 0
+FilesReading circuit bits CircuitTooLong = Rises circuit
+FilesReading circuit bits (CircuitLine line why) = Rises circuit
+FilesReading circuit bits _ = Rises circuit ⊎ Rises bits
+
+-- a generated circuit rests on no source
+abbrev pub ReadingBy : Option GenSize → Seen → Seen → Refusal → Type 0
+ReadingBy None circuit bits r = FilesReading circuit bits r
+ReadingBy (Some size) circuit bits r = ⊥
+
+abbrev pub Reading : Options → Seen → Seen → Refusal → Type 0
+Reading o circuit bits r = ReadingBy o.generated circuit bits r

@@ -1,0 +1,145 @@
+-- How a call may end otherwise, and what it says then.
+use Rattle.std.specs.Prelude.{◌≡◌, ℕ, ◌≤◌, List, [], ◌++◌, take, codes, decimal, IfSome, Option, Some, None}
+use Rattle.std.specs.Io.KnownBytes.{Appends}
+use Rattle.qh_gates.specs.Circuits.{Circuit}
+use Rattle.qh_circuit.specs.declared.fault.Why.{Why}
+use Rattle.qh_circuit.specs.declared.fault.Why.TheVariants.{NoCount, BadCount, BadTime, UnknownGate, BadQubit, SameQubit, Extra, TimeBack, Overlap, TooManyGates}
+use Rattle.qh_bits.specs.declared.faults.BitsWhy.{BitsWhy}
+use Rattle.qh_bits.specs.declared.faults.BitsWhy.TheVariants.{NoStrings, TooMany, Letter, Length}
+use Rattle.qh_plan.specs.declared.fault.PlanFault.{PlanFault}
+use Rattle.qh_plan.specs.declared.fault.PlanFault.TheVariants.{PartText, NoSuchQubit, QubitTwice, EmptyPart, PartTooWide, TooManyCrossing, TooManyPaths, PrefixRoot, PrefixValue, TooManyRanges, JournalTooLong, UncutTooWide, Memory as PlanMemory}
+use Rattle.qh_words.specs.declared.options.Options.{Options}
+use Rattle.qh_top.specs.Seen.{Seen, Rises}
+use Rattle.qh_top.specs.declared.stop.Refusal.{Refusal}
+use Rattle.qh_top.specs.declared.stop.Refusal.TheVariants.{CircuitTooLong, CircuitLine, BitsTooLong, BitsLine, Plan}
+use Rattle.qh_top.specs.declared.stop.Input.{Input}
+use Rattle.qh_top.specs.declared.stop.Input.TheVariants.{OfCircuit, OfBits}
+use Rattle.qh_top.specs.declared.stop.Stop.{Stop}
+use Rattle.qh_top.specs.declared.stop.Stop.TheVariants.{Usage, Refused, OverflowGate, OverflowPath, ReadFault, WriteFault, Memory}
+use Rattle.qh_top.specs.Inputs.{IsCircuitFile}
+use Rattle.qh_top.specs.Refusals.{Refuses}
+use Rattle.qh_top.specs.Request.{Cut, OverflowsAt, OverflowsOn}
+
+abbrev pub status_of : Stop → ℕ
+status_of Usage = 1
+status_of (Refused r) = 2
+status_of (OverflowGate gate) = 3
+status_of (OverflowPath path) = 3
+status_of (ReadFault input) = 4
+status_of (WriteFault n) = 6
+status_of Memory = 7
+
+-- the end of the line that names a faulty line of a circuit text
+abbrev pub circuit_why : Why → List ℕ
+circuit_why NoCount = codes ": NoCount\n"
+circuit_why BadCount = codes ": BadCount\n"
+circuit_why BadTime = codes ": BadTime\n"
+circuit_why UnknownGate = codes ": UnknownGate\n"
+circuit_why BadQubit = codes ": BadQubit\n"
+circuit_why SameQubit = codes ": SameQubit\n"
+circuit_why Extra = codes ": Extra\n"
+circuit_why TimeBack = codes ": TimeBack\n"
+circuit_why Overlap = codes ": Overlap\n"
+circuit_why TooManyGates = codes ": TooManyGates\n"
+
+abbrev pub bits_why : BitsWhy → List ℕ
+bits_why NoStrings = codes ": NoStrings\n"
+bits_why TooMany = codes ": TooMany\n"
+bits_why Letter = codes ": Letter\n"
+bits_why Length = codes ": Length\n"
+
+-- a refusal of the plan: its name, and its number where it has one
+abbrev pub plan_name : PlanFault → List ℕ
+plan_name (PartText item) = codes "refused: plan: PartText "
+plan_name (NoSuchQubit qubit) = codes "refused: plan: NoSuchQubit "
+plan_name (QubitTwice qubit) = codes "refused: plan: QubitTwice "
+plan_name EmptyPart = codes "refused: plan: EmptyPart"
+plan_name (PartTooWide qubits) = codes "refused: plan: PartTooWide "
+plan_name (TooManyCrossing count) = codes "refused: plan: TooManyCrossing "
+plan_name (TooManyPaths log2) = codes "refused: plan: TooManyPaths "
+plan_name (PrefixRoot crossing) = codes "refused: plan: PrefixRoot "
+plan_name (PrefixValue prefixes) = codes "refused: plan: PrefixValue "
+plan_name (TooManyRanges ranges) = codes "refused: plan: TooManyRanges "
+plan_name (JournalTooLong bytes) = codes "refused: plan: JournalTooLong "
+plan_name (UncutTooWide qubits) = codes "refused: plan: UncutTooWide "
+plan_name PlanMemory = codes "refused: plan: Memory"
+
+abbrev pub plan_number : PlanFault → List ℕ
+plan_number (PartText item) = decimal item
+plan_number (NoSuchQubit qubit) = decimal qubit
+plan_number (QubitTwice qubit) = decimal qubit
+plan_number EmptyPart = []
+plan_number (PartTooWide qubits) = decimal qubits
+plan_number (TooManyCrossing count) = decimal count
+plan_number (TooManyPaths log2) = decimal log2
+plan_number (PrefixRoot crossing) = decimal crossing
+plan_number (PrefixValue prefixes) = decimal prefixes
+plan_number (TooManyRanges ranges) = decimal ranges
+plan_number (JournalTooLong bytes) = decimal bytes
+plan_number (UncutTooWide qubits) = decimal qubits
+plan_number PlanMemory = []
+
+-- the digits of a number that may be absent
+abbrev pub number_text : Option ℕ → List ℕ
+number_text None = []
+number_text (Some n) = decimal n
+
+abbrev pub refusal_line : Refusal → List ℕ
+refusal_line CircuitTooLong = codes "refused: circuit too long\n"
+refusal_line (CircuitLine line why) = codes "refused: circuit line " ++ decimal line ++ circuit_why why
+refusal_line BitsTooLong = codes "refused: bitstrings too long\n"
+refusal_line (BitsLine line why) = codes "refused: bitstrings line " ++ decimal line ++ bits_why why
+refusal_line (Plan fault) = plan_name fault ++ plan_number fault ++ codes "\n"
+
+abbrev pub fault_line : Input → List ℕ
+fault_line OfCircuit = codes "read fault: circuit\n"
+fault_line OfBits = codes "read fault: bitstrings\n"
+
+abbrev pub usage_line : List ℕ
+usage_line = codes "usage: qsimh_amplitudes -c FILE -i FILE [-d T] [-k LIST] [-p N] [-r N] [-w N] [-o FILE] [-t N] [-v N] [-j FILE] [-l SECONDS] [--new] [-g S,R,C,D]\n"
+
+-- the one line that tells why
+abbrev pub message_of : Stop → List ℕ
+message_of Usage = usage_line
+message_of (Refused r) = refusal_line r
+message_of (OverflowGate gate) = codes "overflow: gate " ++ decimal gate ++ codes "\n"
+message_of (OverflowPath path) = codes "overflow: path " ++ decimal path ++ codes "\n"
+message_of (ReadFault input) = fault_line input
+message_of (WriteFault n) = codes "write fault after " ++ decimal n ++ codes " bytes\n"
+message_of Memory = codes "out of memory\n"
+
+-- when the call may stop so, by the options
+abbrev pub MayStopBy : Options → Seen → Seen → Seen → Stop → Type 0
+MayStopBy o circuit bits out Usage = ⊥
+MayStopBy o circuit bits out (Refused r) = Refuses (λ known P. IfSome known P) o r circuit.before bits.before
+MayStopBy o circuit bits out (OverflowGate gate) = OverflowsAt o circuit bits gate
+MayStopBy o circuit bits out (OverflowPath path) = OverflowsOn o circuit bits path
+MayStopBy o circuit bits out (ReadFault OfCircuit) = (o.generated ≡ None) × Rises circuit
+MayStopBy o circuit bits out (ReadFault OfBits) = (o.generated ≡ None) × Rises bits × IfSome circuit.before (λ text. (c : Circuit) × IsCircuitFile o.max_time c text)
+MayStopBy o circuit bits out (WriteFault n) = Cut o circuit bits out n
+MayStopBy o circuit bits out Memory = Unit {0}
+
+-- words that are no request stop for usage or want of memory, and others for a cause of their options
+abbrev pub MayStop : Option Options → Seen → Seen → Seen → Stop → Type 0
+MayStop None circuit bits out Usage = Unit {0}
+MayStop None circuit bits out Memory = Unit {0}
+MayStop None circuit bits out _ = ⊥
+MayStop (Some o) circuit bits out stop = MayStopBy o circuit bits out stop
+
+-- a sink got a front of a line, and the whole line where its count did not rise
+pub record Says (err : Seen) (line : List ℕ) : Type 0 where
+  pub later : err.faults ≤ err.faults_after
+  pub front : (n : ℕ) × Appends err.before err.after (take n line)
+  pub whole : (Rises err → ⊥) → Appends err.before err.after line
+
+-- the call stopped, for a cause, with its status, and said so
+pub record Stops (status : ℕ) (May : Stop → Type 0) (Told : List ℕ → Type 0) : Type 0 where
+  pub stop : Stop
+  pub status_is : status ≡ status_of stop
+  pub cause : May stop
+  pub told : Told (message_of stop)
+
+-- where a plan is refused, and for want of memory
+abbrev pub stop_of : PlanFault → Stop
+stop_of PlanMemory = Memory
+stop_of fault = Refused (Plan fault)
