@@ -1,0 +1,50 @@
+//! `qsimh_amplitudes`: prints exact amplitudes of a circuit.
+//!
+//! It reads its words, hands over the files that they name, and ends with the status of the call.
+#![tactic(auto)]
+
+use qh_io::{ErrSink, FileSink, FileSource};
+use qh_top::{Text, WordsFault, file_names, qsimh_alone};
+use std::alloc::AllocError;
+use std::env::Env;
+use std::process::ExitCode;
+use std::{env, io};
+
+/// The status of want of memory.
+const MEMORY: u8 = 7;
+
+/// The words after the program's name. Words that cannot be read, as those that are no text, are no words.
+fn words_after_name<R: Env + AllocGlobal>(rt: &R) -> Result<Vec<String>, AllocError> {
+    let mut words = Vec::new(rt.alloc());
+    let args = match env::args(rt) {
+        Ok(args) => args,
+        Err(error) => {
+            return if error.kind() == io::ErrorKind::OutOfMemory {
+                Err(AllocError)
+            } else {
+                Ok(words)
+            };
+        }
+    };
+    for word in args.skip(1) {
+        words.push(word)?;
+    }
+    Ok(words)
+}
+
+fn main(rt: HostRuntime) -> ExitCode {
+    let alloc = rt.alloc();
+    let Ok(words) = words_after_name(&rt) else {
+        return ExitCode::from(MEMORY);
+    };
+    let (circuit, bits, out) = match file_names(alloc, &words) {
+        Ok(names) => (names.circuit, names.bits, names.out),
+        Err(WordsFault::Usage) => (None, None, None),
+        Err(WordsFault::Memory) => return ExitCode::from(MEMORY),
+    };
+    let mut circuit = FileSource::new(&rt, circuit.map(Text::into_string));
+    let mut bits = FileSource::new(&rt, bits.map(Text::into_string));
+    let mut out = FileSink::new(&rt, out.map(Text::into_string));
+    let mut err = ErrSink::new(&rt);
+    ExitCode::from(qsimh_alone(alloc, &words, &mut circuit, &mut bits, &mut out, &mut err))
+}
