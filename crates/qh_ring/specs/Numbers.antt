@@ -1,6 +1,7 @@
 -- Numbers a + b w + c w^2 + d w^3 with w^4 = -1, over whole numbers of any size.
 -- They are the ring Z[w] of the primitive eighth root of unity w = (1 + i) / sqrt 2.
 use Rattle.std.specs.Prelude.{◌≡◌, ℕ, zero, suc, ◌-◌, ◌^◌, ◌<◌, ◌≤◌, ℤ, pos, negsuc, ◌+ℤ◌, ◌-ℤ◌, ◌*ℤ◌, unsigned_abs}
+use Rattle.qh_limits.specs.Limits.{product_bits}
 use Rattle.qh_ring.specs.declared.number.Omega.{Omega}
 use Rattle.qh_ring.specs.declared.canon.Canon.{Canon}
 
@@ -66,7 +67,7 @@ scaled_by x y = record { a = x *ℤ y.a; b = x *ℤ y.b; c = x *ℤ y.c; d = x *
 
 -- each of the sixteen products of a coefficient of x and one of y has a magnitude below 2 ^ 92
 pub record AreNarrow (x y : Omega) : Type 0 where
-  pub a : IsWithin 92 (scaled_by x.a y)
-  pub b : IsWithin 92 (scaled_by x.b y)
-  pub c : IsWithin 92 (scaled_by x.c y)
-  pub d : IsWithin 92 (scaled_by x.d y)
+  pub a : IsWithin product_bits (scaled_by x.a y)
+  pub b : IsWithin product_bits (scaled_by x.b y)
+  pub c : IsWithin product_bits (scaled_by x.c y)
+  pub d : IsWithin product_bits (scaled_by x.d y)

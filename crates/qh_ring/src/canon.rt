@@ -1,5 +1,6 @@
 //! A number over a power of √2, in least form.
 ghost use Rattle.std.specs.Prelude.{◌≡◌, ◌≢◌, ◌≤◌, ◌<◌, IfSome, IfNone};
+ghost use Rattle.qh_limits.specs.Limits.{coefficient_bits};
 ghost use Rattle.qh_ring.specs.declared.number.Omega.{Omega};
 ghost use Rattle.qh_ring.specs.Numbers.{IsWithin, product, root, IsCanon};
 
@@ -14,8 +15,8 @@ pub struct Canon {
 
 /// z/√2, where that is a number of this ring: exactly where a - c and b - d are even.
 fn half_root(z: &Omega) -> Option<Omega>
-    requires { IsWithin 126 z.now }
-    ensures some { IfSome result (λ q. (product root q ≡ z.now) × IsWithin 126 q) }
+    requires { IsWithin coefficient_bits z.now }
+    ensures some { IfSome result (λ q. (product root q ≡ z.now) × IsWithin coefficient_bits q) }
     ensures none { IfNone result ((q : Omega) → product root q ≢ z.now) }
 {
     let Omega { a, b, c, d } = *z;
@@ -33,7 +34,7 @@ fn half_root(z: &Omega) -> Option<Omega>
 /// The canonical form of z/√2^k, of a number within 126 bits: the equal form of least k.
 /// It costs one exact division by √2 for each factor that it takes out.
 pub fn reduce(z: &Omega, k: u32) -> Canon
-    requires { IsWithin 126 z.now }
+    requires { IsWithin coefficient_bits z.now }
     ensures { IsCanon z.now k result }
 {
     let mut rest = *z;

@@ -25,6 +25,10 @@ pub struct Mat4 {
 
 /// The matrix of zeros.
 impl Default for Mat2 {
+    ghost use Rattle.qh_ring.specs.Matrices.{zero_rows};
+
+    ghost is_default = { λ m. m.rows ≡ zero_rows };
+
     fn default() -> Self {
         Mat2 {
             rows: [[Entry::Zero, Entry::Zero], [Entry::Zero, Entry::Zero]],

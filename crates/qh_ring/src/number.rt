@@ -1,5 +1,6 @@
 //! A number and its linear operations.
 ghost use Rattle.std.specs.Prelude.{◌≡◌, ◌↔◌, ◌≤◌, ◌<◌, IsTrue};
+ghost use Rattle.qh_limits.specs.Limits.{coefficient_bits};
 ghost use Rattle.qh_ring.specs.Numbers.{IsBelow, IsWithin, sum, product, unit_power};
 
 /// The number a + bω + cω² + dω³, where ω is the eighth root of unity with ω² = i and ω⁴ = -1.
@@ -30,7 +31,7 @@ impl Omega {
 
 /// Whether the magnitude of `x` is below 2^bits.
 pub(crate) fn is_below(x: i128, bits: u32) -> bool
-    requires { bits ≤ 126 }
+    requires { bits ≤ coefficient_bits }
     ensures { IsTrue result ↔ IsBelow bits x }
 {
     x.unsigned_abs() < 1u128 << bits
@@ -38,7 +39,7 @@ pub(crate) fn is_below(x: i128, bits: u32) -> bool
 
 /// Whether each coefficient's magnitude is below 2^bits, for at most 126 bits.
 pub fn within(z: &Omega, bits: u32) -> bool
-    requires { bits ≤ 126 }
+    requires { bits ≤ coefficient_bits }
     ensures { IsTrue result ↔ IsWithin bits z.now }
 {
     is_below(z.a, bits) && is_below(z.b, bits) && is_below(z.c, bits) && is_below(z.d, bits)
@@ -46,8 +47,8 @@ pub fn within(z: &Omega, bits: u32) -> bool
 
 /// The sum of two numbers within 126 bits.
 pub fn add_bounded(x: &Omega, y: &Omega) -> Omega
-    requires x_within { IsWithin 126 x.now }
-    requires y_within { IsWithin 126 y.now }
+    requires x_within { IsWithin coefficient_bits x.now }
+    requires y_within { IsWithin coefficient_bits y.now }
     ensures { result ≡ sum x.now y.now }
 {
     Omega {
@@ -58,57 +59,29 @@ pub fn add_bounded(x: &Omega, y: &Omega) -> Omega
     }
 }
 
+/// The number of these coefficients.
+fn of_coefficients(a: i128, b: i128, c: i128, d: i128) -> Omega
+    ensures { result ≡ record { a = a; b = b; c = c; d = d } }
+{
+    Omega { a, b, c, d }
+}
+
 /// z·ω^j, of a number within 126 bits and a j below 8. Its coefficients are those of z, moved and signed.
 pub fn times_unit(z: &Omega, j: u8) -> Omega
-    requires z_within { IsWithin 126 z.now }
+    requires z_within { IsWithin coefficient_bits z.now }
     requires unit { j < 8 }
     ensures value { result ≡ product (unit_power j) z.now }
-    ensures bounded { IsWithin 126 result }
+    ensures bounded { IsWithin coefficient_bits result }
 {
     let Omega { a, b, c, d } = *z;
     match j {
-        0 => Omega { a, b, c, d },
-        1 => Omega {
-            a: -d,
-            b: a,
-            c: b,
-            d: c,
-        },
-        2 => Omega {
-            a: -c,
-            b: -d,
-            c: a,
-            d: b,
-        },
-        3 => Omega {
-            a: -b,
-            b: -c,
-            c: -d,
-            d: a,
-        },
-        4 => Omega {
-            a: -a,
-            b: -b,
-            c: -c,
-            d: -d,
-        },
-        5 => Omega {
-            a: d,
-            b: -a,
-            c: -b,
-            d: -c,
-        },
-        6 => Omega {
-            a: c,
-            b: d,
-            c: -a,
-            d: -b,
-        },
-        _ => Omega {
-            a: b,
-            b: c,
-            c: d,
-            d: -a,
-        },
+        0 => of_coefficients(a, b, c, d),
+        1 => of_coefficients(-d, a, b, c),
+        2 => of_coefficients(-c, -d, a, b),
+        3 => of_coefficients(-b, -c, -d, a),
+        4 => of_coefficients(-a, -b, -c, -d),
+        5 => of_coefficients(d, -a, -b, -c),
+        6 => of_coefficients(c, d, -a, -b),
+        _ => of_coefficients(b, c, d, -a),
     }
 }

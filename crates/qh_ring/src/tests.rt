@@ -1,5 +1,8 @@
 //! Values worked out by hand from ω² = i, ω⁴ = -1 and √2 = ω - ω³, and the limits on both sides.
-use crate::{Canon, Omega, TooWide, add_bounded, mul_checked, reduce, times_unit, within};
+use crate::{
+    Canon, Entry, Mat2, Omega, TooWide, add_bounded, mul_checked, reduce, times_unit, within,
+};
+use qh_limits::COEFFICIENT_BITS;
 use std::process::Abort;
 use std::test::Fail;
 
@@ -37,13 +40,22 @@ fn sums_and_turns(rt: HostRuntime) -> Result<(), Fail> {
         (4, number(-1, -20, -300, -4000)),
         (7, number(20, 300, 4000, -1)),
     ] {
-        assert!(rt; within(&z, 126));
+        assert!(rt; within(&z, COEFFICIENT_BITS));
         assert!(rt; j < 8);
         assert_eq!(rt; times_unit(&z, j), turned, "times the power {j}");
     }
-    assert!(rt; within(&z, 126) && within(&Omega::ONE, 126) && within(&Omega::ZERO, 126));
+    assert!(rt; within(&z, COEFFICIENT_BITS));
+    assert!(rt; within(&Omega::ONE, COEFFICIENT_BITS) && within(&Omega::ZERO, COEFFICIENT_BITS));
     assert_eq!(rt; add_bounded(&z, &Omega::ONE), number(2, 20, 300, 4000));
     assert_eq!(rt; add_bounded(&z, &Omega::ZERO), z);
+    Ok(())
+}
+
+#[test]
+fn zeros(rt: HostRuntime) -> Result<(), Fail> {
+    for row in Mat2::default().rows {
+        assert_eq!(rt; row, [Entry::Zero, Entry::Zero]);
+    }
     Ok(())
 }
 
@@ -79,8 +91,8 @@ fn products(rt: HostRuntime) -> Result<(), Fail> {
         (number(0, 0, 0, -1), number(0, LIMIT_92, 0, 0), Err(TooWide)),
         (number(half, 0, 0, 0), number(0, 0, half, 0), Err(TooWide)),
     ] {
-        assert!(rt; within(&x, 126));
-        assert!(rt; within(&y, 126));
+        assert!(rt; within(&x, COEFFICIENT_BITS));
+        assert!(rt; within(&y, COEFFICIENT_BITS));
         assert_eq!(rt; mul_checked(&x, &y), answer, "{x:?} times {y:?}");
     }
     Ok(())
@@ -146,7 +158,7 @@ fn least_forms(rt: HostRuntime) -> Result<(), Fail> {
             },
         ),
     ] {
-        assert!(rt; within(&z, 126));
+        assert!(rt; within(&z, COEFFICIENT_BITS));
         assert_eq!(rt; reduce(&z, k), least, "{z:?} over the root to the {k}");
     }
     Ok(())
