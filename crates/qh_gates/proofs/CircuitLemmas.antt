@@ -1,5 +1,5 @@
 -- A gate that no fault applies to keeps the circuit valid.
-use Rattle.std.proofs.Common.{◌≡◌, ℕ, ◌<◌, ◌≤◌, inl, inr, List, [], ◌∷◌, ◌++◌, length, get_or, arith, sym}
+use Rattle.std.proofs.Common.{◌≡◌, ℕ, ◌^◌, ◌<◌, ◌≤◌, inl, inr, List, [], ◌∷◌, ◌++◌, length, get_or, arith, sym}
 use Rattle.std.specs.List.{Any}
 use Rattle.std.proofs.lemmas.List.{length_push, get_or_default}
 use Rattle.std.proofs.lemmas.List.Quantifiers.{all_pairs_push}
@@ -23,8 +23,8 @@ in_order g h late shared = record {
 }
 
 -- a gate that no fault applies to may be pushed
-pub circuit_push : (c : Circuit) (g : Gate) → IsCircuit c → (qubits_of g.kind ≡ 1 → g.q1 ≡ g.q0) → IsAccepted c g → IsCircuit (record { qubits = c.qubits; gates = c.gates ++ g ∷ [] })
-circuit_push c g h one a = record {
+pub circuit_push : (c : Circuit) (g : Gate) → IsCircuit c → g.time < 2 ^ 32 → (qubits_of g.kind ≡ 1 → g.q1 ≡ g.q0) → IsAccepted c g → IsCircuit (record { qubits = c.qubits; gates = c.gates ++ g ∷ [] })
+circuit_push c g h early one a = record {
   some = h.some;
   few = h.few;
   short = let n = a.1 in let m = length_push c.gates g in omega arith;
@@ -34,6 +34,7 @@ circuit_push c g h one a = record {
     one = one;
     two = λ e f. a.0.1 (e, sym f);
   });
+  times = All-push (λ (g : Gate). g.time < 2 ^ 32) c.gates g h.times early;
   ordered = all_pairs_push InOrder c.gates g h.ordered (λ k d l.
       in_order g (get_or c.gates k d) (at_each (λ h. g.time < h.time) c.gates a.0.2 k d l) (at_each (λ h. (h.time ≡ g.time) × Shares g h) c.gates a.0.3 k d l));
 }

@@ -1,3 +1,4 @@
 pub mod CircuitLemmas
+pub mod KindLemmas
 pub mod NameLemmas
 pub mod TermLemmas

@@ -1,6 +1,7 @@
 -- A circuit as contracts see it.
-use Rattle.std.specs.Prelude.{◌≡◌, ◌≢◌, ℕ, ◌<◌, ◌≤◌, List, length, All, sum_by}
+use Rattle.std.specs.Prelude.{◌≡◌, ◌≢◌, ℕ, ◌^◌, ◌<◌, ◌≤◌, List, length, All, sum_by}
 use Rattle.std.specs.List.{AllPairs}
+use Rattle.qh_limits.specs.Limits.{max_qubits, max_gates}
 use Rattle.qh_gates.specs.declared.gate.Gate.{Gate}
 use Rattle.qh_gates.specs.Tables.{qubits_of, weight_of}
 
@@ -27,12 +28,13 @@ pub record InOrder (earlier later : Gate) : Type 0 where
   pub apart10 : earlier.time ≡ later.time → earlier.q1 ≢ later.q0
   pub apart11 : earlier.time ≡ later.time → earlier.q1 ≢ later.q1
 
--- 1 to 40 qubits, at most 4,096 gates, each of which fits, in order
+-- 1 to 40 qubits, at most 4,096 gates, each of which fits, in order, at times below 2 ^ 32
 pub record IsCircuit (c : Circuit) : Type 0 where
   pub some : 1 ≤ c.qubits
-  pub few : c.qubits ≤ 40
-  pub short : length c.gates ≤ 4096
+  pub few : c.qubits ≤ max_qubits
+  pub short : length c.gates ≤ max_gates
   pub fit : All (Fits c.qubits) c.gates
+  pub times : All (λ g. g.time < 2 ^ 32) c.gates
   pub ordered : AllPairs InOrder c.gates
 
 -- how many of the gates are scaled by 1/sqrt 2

@@ -1,5 +1,6 @@
 -- What an uncut circuit does to a state, without the factors 1/sqrt 2.
 use Rattle.std.specs.Prelude.{◌==◌, ℕ, ◌+◌, ◌^◌, ◌<◌, ◌≤◌, List, [], ◌∷◌, length, map, take, if◌then◌else◌}
+use Rattle.qh_limits.specs.Limits.{coefficient_bits}
 use Rattle.qh_ring.specs.declared.number.Omega.{Omega}
 use Rattle.qh_ring.specs.Numbers.{IsWithin}
 use Rattle.qh_ring.specs.Matrices.{number_in}
@@ -32,7 +33,7 @@ uncut gates = evolved ground (map operation_of gates)
 
 -- each of the state's 2^n numbers is within 126 bits
 abbrev pub StateFits : ℕ → (ℕ → Omega) → Type 0
-StateFits n v = (x : ℕ) → x < 2 ^ n → IsWithin 126 (v x)
+StateFits n v = (x : ℕ) → x < 2 ^ n → IsWithin coefficient_bits (v x)
 
 -- the state after each number of gates fits
 abbrev pub NeverOver : Circuit → Type 0

@@ -1,5 +1,6 @@
 -- When a gate may not be pushed.
 use Rattle.std.specs.Prelude.{◌≡◌, ◌<◌, ◌≤◌, ◌⊎◌, length, Any}
+use Rattle.qh_limits.specs.Limits.{max_gates}
 use Rattle.qh_gates.specs.declared.gate.Gate.{Gate}
 use Rattle.qh_gates.specs.declared.gate.GateFault.{GateFault}
 use Rattle.qh_gates.specs.declared.gate.GateFault.TheVariants.{BadQubit, SameQubit, TimeBack, Overlap, Full}
@@ -14,7 +15,7 @@ Applies c g BadQubit = (c.qubits ≤ g.q0) ⊎ (c.qubits ≤ g.q1)
 Applies c g SameQubit = (qubits_of g.kind ≡ 2) × (g.q0 ≡ g.q1)
 Applies c g TimeBack = Any (λ h. g.time < h.time) c.gates
 Applies c g Overlap = Any (λ h. (h.time ≡ g.time) × Shares g h) c.gates
-Applies c g Full = 4096 ≤ length c.gates
+Applies c g Full = max_gates ≤ length c.gates
 
 -- no fault that stands before this one applies
 abbrev pub NoneBefore : Circuit → Gate → GateFault → Type 0

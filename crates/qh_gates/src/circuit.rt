@@ -1,20 +1,19 @@
 //! A circuit, valid by its type.
 ghost use Rattle.std.specs.Prelude.{◌≡◌, ◌≤◌, ◌++◌, ◌∷◌, [], OnOk, OnErr, IfErr, Any, IsTrue, ◌↔◌, ◌⊎◌, ◌<◌, length};
+ghost use Rattle.qh_limits.specs.Limits.{max_qubits, max_gates};
 ghost use Rattle.qh_gates.specs.Tables.{qubits_of};
 ghost use Rattle.qh_gates.specs.Circuits.{total_weight};
 ghost use Rattle.qh_gates.specs.Faults.{Shares};
 
 use crate::gate::{Gate, GateFault};
 use crate::kind::{arity, scaled};
+use qh_limits::MAX_GATES;
 use std::alloc::{AllocError, Global};
 use std::marker::Model;
 
-/// The most gates that a circuit keeps.
-const MAX_GATES: usize = 4096;
-
 /// A circuit of 1 to 40 qubits and at most 4,096 gates. Each gate's qubits are below the count and differ where
-/// there are two, times do not fall, and no two gates of one time share a qubit. Contracts see its number of
-/// qubits and its list of gates.
+/// there are two, times are below 2^32 and do not fall, and no two gates of one time share a qubit. Contracts see
+/// its number of qubits and its list of gates.
 #[derive(Drop)]
 pub struct Circuit {
     qubits: u32,
@@ -38,7 +37,7 @@ impl Circuit {
     /// The circuit of 1 to 40 qubits without gates. It takes no memory.
     pub fn start(alloc: Global, qubits: u32) -> Circuit
         requires some { 1 ≤ qubits }
-        requires few { qubits ≤ 40 }
+        requires few { qubits ≤ max_qubits }
         ensures { result ≡ record { qubits = qubits; gates = [] } }
     {
         Circuit {
@@ -102,7 +101,7 @@ impl Circuit {
     /// The number K of scaled gates: the amplitudes are the state's numbers over √2^K.
     pub fn weight(&self) -> u32
         ensures value { result ≡ total_weight self.now.gates }
-        ensures bounded { result ≤ 4096 }
+        ensures bounded { result ≤ max_gates }
     {
         weight_in(self.gates.as_slice())
     }
@@ -110,7 +109,7 @@ impl Circuit {
 
 /// The sum of the gates' weights.
 fn weight_in(gates: &[Gate]) -> u32
-    requires { length gates.now ≤ 4096 }
+    requires { length gates.now ≤ max_gates }
     ensures value { result ≡ total_weight gates.now }
     ensures bounded { result ≤ length gates.now }
 {

@@ -2,6 +2,7 @@
 use crate::{
     Circuit, Gate, GateFault, Kind, arity, kind_of, matrix1, matrix2, name_of, scaled, terms,
 };
+use qh_limits::COEFFICIENT_BITS;
 use qh_ring::{Entry, Omega, add_bounded, times_unit, within};
 use std::alloc::Global;
 use std::process::Abort;
@@ -49,7 +50,7 @@ fn squared(rt: &impl Abort, rows: &[[Entry; 2]; 2], row: usize, column: usize) -
             rows[middle][column % 2],
         ) {
             assert!(rt; j < 8 && k < 8);
-            assert!(rt; within(&total, 126) && within(&Omega::ONE, 126));
+            assert!(rt; within(&total, COEFFICIENT_BITS) && within(&Omega::ONE, COEFFICIENT_BITS));
             total = add_bounded(&total, &times_unit(&Omega::ONE, (j + k) % 8));
         }
     }
