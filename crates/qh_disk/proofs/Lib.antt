@@ -1,4 +1,5 @@
 mod Events
+pub mod Looking
 pub mod Moments
 mod Pending
 mod Replay

@@ -4,7 +4,7 @@ use Rattle.qh_disk.specs.Disk.{Face, IsImage, IsSafe, Reads, Calls, Unchanged, S
 use Rattle.qh_disk.specs.Moments.{EachImageAt, EachImage, IsImageSince, EachImageSince, IsStableAt, Runs, Lasts}
 use Rattle.qh_disk.specs.declared.failed.Failed.{Failed}
 
-le_cases : (s n : ℕ) → (s ≤ n) ⊎ (n < s)
+pub le_cases : (s n : ℕ) → (s ≤ n) ⊎ (n < s)
 le_cases s n = grind arith
 
 -- Runs: no call, one call, one run after another.
@@ -32,6 +32,23 @@ shrinks_keeps P old new less each c is = each c (less.images c is)
 
 pub turns_keeps : (P : List ℕ → Type 0) (step : List ℕ → List ℕ → Type 0) (old new : Face) → Turns step old new → ((d c : List ℕ) → step d c → P d → P c) → EachImage old P → EachImage new P
 turns_keeps P step old new turns keeps each c is = let from = turns.images c is in keeps from.0 c from.2 (each from.0 from.1)
+
+-- What a call keeps of all that is read, whether it succeeds or fails.
+pub unchanged_reads : (P : List ℕ → Type 0) (old new : Face) → Unchanged old new → Reads old P → Reads new P
+unchanged_reads P old new same reads f told = reads f (sym same.content ∙ told)
+
+pub shrinks_reads : (P : List ℕ → Type 0) (old new : Face) → Shrinks old new → Reads old P → Reads new P
+shrinks_reads P old new less reads f told = reads f (sym less.content ∙ told)
+
+pub turns_reads : (P Q : List ℕ → Type 0) (step : List ℕ → List ℕ → Type 0) (old new : Face) → Turns step old new → ((d c : List ℕ) → step d c → P d → Q c) → Reads old P → Reads new Q
+turns_reads P Q step old new turns keeps reads c told = let from = turns.content c told in keeps from.0 c from.2 (reads from.0 from.1)
+
+-- Two facts at once.
+pub each_both : (P Q : List ℕ → Type 0) (d : Face) → EachImage d P → EachImage d Q → EachImage d (λ c. P c × Q c)
+each_both P Q d first second c is = (first c is, second c is)
+
+pub reads_both : (P Q : List ℕ → Type 0) (d : Face) → Reads d P → Reads d Q → Reads d (λ f. P f × Q f)
+reads_both P Q d first second f told = (first f told, second f told)
 
 -- where the only image is what it reads as, each image is what that is
 pub safe_each : (P : List ℕ → Type 0) (d : Face) → IsSafe d → Reads d P → EachImage d P
@@ -62,8 +79,8 @@ lasts_step P old new runs soon keeps = record {
 pub lasts_call : {T : Type 0} (P : List ℕ → Type 0) (result : Result T Failed) (old new : Face) → Calls result old new → (EachImage old P → EachImage new P) → Lasts P old new
 lasts_call P result old new call keeps = lasts_step P old new (runs_call result old new call) call.soon keeps
 
-pub lasts_on : (P : List ℕ → Type 0) (old mid new : Face) → Runs old mid → Lasts P old mid → Runs mid new → Lasts P mid new → Lasts P old new
-lasts_on P old mid new first a then b = record {
+pub lasts_on : (P : List ℕ → Type 0) (old mid new : Face) → Lasts P old mid → Runs mid new → Lasts P mid new → Lasts P old new
+lasts_on P old mid new a then b = record {
   each = λ t s low le most here c is. elim (le_cases t mid.clock) [
     | inr after ↦ b.each t s (omega arith) le most here c is
     | inl before ↦
@@ -75,6 +92,11 @@ lasts_on P old mid new first a then b = record {
               b.each mid.clock s (omega arith) (omega arith) most mid_holds c is
         ]
   ];
+}
+
+pub lasts_both : (P Q : List ℕ → Type 0) (old new : Face) → Lasts P old new → Lasts Q old new → Lasts (λ c. P c × Q c) old new
+lasts_both P Q old new first second = record {
+  each = λ t s low le most here c is. (first.each t s low le most (λ d at. (here d at).0) c is, second.each t s low le most (λ d at. (here d at).1) c is);
 }
 
 -- What is stable at one moment of a run is stable at each later one, with the same value.

@@ -1,7 +1,8 @@
 -- What calls do to a disk: to what it reads as, and to its images.
-use Rattle.std.specs.Prelude.{◌<◌, ◌≡◌, ℕ, ◌+◌, ◌-◌, ◌≤◌, ◌^◌, min, max, List, ◌++◌, length, take, drop, true, replicate, Option, Some, option_map, Result, IfErr, OnErr}
+use Rattle.std.specs.Prelude.{◌<◌, ◌≡◌, ℕ, ◌+◌, ◌-◌, ◌≤◌, min, max, List, ◌++◌, length, take, drop, true, replicate, Option, Some, option_map, Result, IfErr, OnErr}
 use Rattle.std.specs.Option.{is_some}
 use Rattle.std.proofs.Common.{get_or}
+use Rattle.qh_counts.specs.Counts.{Rose}
 use Rattle.qh_disk.specs.declared.failed.Failed.{Failed}
 
 -- f with these bytes at this offset
@@ -56,14 +57,6 @@ pub record IsHonest (d : Face) : Type 0 where
 -- the only image is what it reads as
 abbrev pub IsSafe : Face → Type 0
 IsSafe d = (c : List ℕ) → IsImage d c → d.content ≡ Some c
-
--- a count of faults one higher, which stays at its last value
-abbrev pub raised : ℕ → ℕ
-raised n = min (n + 1) (2 ^ 64 - 1)
-
--- the count rose, or stands at its last value
-abbrev pub Rose : ℕ → ℕ → Type 0
-Rose before now = raised before ≤ now
 
 -- One call: past moments stay, at most one is new, content is told where it was told, and a failure
 -- has its cause.

@@ -2,7 +2,8 @@
 use Rattle.std.specs.Prelude.{◌≡◌, ◌⊎◌, ℕ, ◌≤◌, List, [], ◌∷◌, ◌++◌, length, take, replicate, Option, Some, None, Result, OnErr, IsErr, refl}
 use Rattle.std.proofs.Common.{get_or, arith, ap}
 use Rattle.std.proofs.lemmas.List.{places, take_all}
-use Rattle.qh_disk.specs.Disk.{Face, overwritten, resized, raised, Rose, Torn, Stretched}
+use Rattle.qh_counts.specs.Counts.{raised}
+use Rattle.qh_disk.specs.Disk.{Face, overwritten, resized, Torn, Stretched}
 use Rattle.qh_disk.specs.Plan.{CallPlan, counted}
 use Rattle.qh_disk.specs.declared.failed.Failed.{Failed}
 use Rattle.qh_disk.specs.declared.pick.Pick.{Pick}
@@ -129,10 +130,12 @@ pub record IsRefused (old new : History) : Type 0 where
   pub plan : new.plan ≡ counted old.plan
   pub faults : new.faults ≡ raised old.faults
 
--- a call fails where that is wanted, and else only where its record found no memory
+-- A call fails where that is wanted, and the count of shortages then stays. Else it fails only where
+-- its record found no memory, and that count then rises by one.
 pub record FailsOnly {T : Type 0} (Wanted : Type 0) (result : Result T Failed) (old new : History) : Type 0 where
   pub wanted : Wanted → IsErr result
-  pub only : OnErr result (Wanted ⊎ Rose old.shortages new.shortages)
+  pub stays : Wanted → new.shortages ≡ old.shortages
+  pub only : OnErr result (Wanted ⊎ (new.shortages ≡ raised old.shortages))
 
 -- a new length is not above the room
 abbrev pub HasRoom : ℕ → Event → Type 0

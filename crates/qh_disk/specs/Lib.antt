@@ -3,5 +3,6 @@ pub mod Event
 pub mod File
 pub mod History
 pub mod Inside
+pub mod Looks
 pub mod Moments
 pub mod Plan

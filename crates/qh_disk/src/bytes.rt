@@ -1,4 +1,4 @@
-// Bytes that have their room beforehand.
+//! Bytes that have their room beforehand.
 ghost use Rattle.std.specs.Prelude.{◌≡◌, ◌≤◌, length, vec_len, replicate, IfOk};
 ghost use Rattle.std.specs.Vec.{vec_capacity};
 ghost use Rattle.qh_disk.specs.Disk.{resized};

@@ -1,5 +1,5 @@
-// What a disk promises.
-ghost use Rattle.std.specs.Prelude.{◌≡◌, ◌≤◌, ◌+◌, ◌∷◌, ℕ, List, length, take, drop, IfOk, OnOk};
+//! What a disk promises.
+ghost use Rattle.std.specs.Prelude.{◌≡◌, ◌≤◌, ◌+◌, ◌∷◌, ℕ, List, length, take, drop, IfOk, OnOk, OnErr};
 ghost use Rattle.qh_disk.specs.Disk.{Face, IsImage, Reads, Becomes, overwritten, resized, Torn, Stretched, Calls, Unchanged, Shrinks, Turns, IsSafe};
 
 use crate::Failed;
@@ -18,8 +18,8 @@ use crate::Failed;
 ///    since.
 /// 5. A sync that succeeds changes nothing that is read, and leaves that as the only image.
 /// 6. A write that fails leaves any bytes in its range, a `set_len` that fails some length from the
-///    old one to the new one, and a sync that fails makes nothing safe. `len` and `read_at` change
-///    nothing, whether they succeed or fail.
+///    old one to the new one, and a sync that fails makes nothing safe: it loses no image. `len` and
+///    `read_at` change nothing, whether they succeed or fail.
 /// 7. A disk that tells what it reads as goes on telling it, and one that does not never begins to.
 /// 8. Each call tells which images there were at some moment since it began: those before it, and
 ///    those after it.
@@ -66,6 +66,7 @@ pub trait Disk {
     fn sync(&mut self) -> Result<(), Failed>
         ensures safe { OnOk result (IsSafe (face self.new)) }
         ensures shrinks { Shrinks (face self.old) (face self.new) }
+        ensures loses_none { OnErr result (Unchanged (face self.old) (face self.new)) }
         ensures call { Calls result (face self.old) (face self.new) }
         ensures same { loans self.new ≡ loans self.old };
 

@@ -1,4 +1,4 @@
-// How a call of a disk fails.
+//! How a call of a disk fails.
 
 /// A call failed.
 #[derive(Clone, Copy, Debug, PartialEq, Eq)]

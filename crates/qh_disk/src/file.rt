@@ -1,11 +1,13 @@
-// A disk over a file of the system.
+//! A disk over a file of the system.
 ghost use Rattle.std.specs.Prelude.{◌≡◌, ◌≤◌, ◌+◌, ◌↔◌, [], length, take, drop, true, false, None, IfOk, OnOk, OnErr, IfErr, IsErr};
 ghost use Rattle.std.specs.Option.{is_some};
 ghost use Rattle.std.proofs.Common.{rules};
-ghost use Rattle.qh_disk.specs.Disk.{raised, Reads, Becomes, overwritten, resized, Torn, Stretched, Calls, Unchanged, Shrinks, Turns, IsSafe};
+ghost use Rattle.qh_counts.specs.Counts.{raised};
+ghost use Rattle.qh_disk.specs.Disk.{Reads, Becomes, overwritten, resized, Torn, Stretched, Calls, Unchanged, Shrinks, Turns, IsSafe};
 ghost use Rattle.qh_disk.specs.File.{face_of};
 
 use crate::{Disk, Failed};
+use qh_counts::raise;
 use std::fs::{File, OpenOptions};
 use std::io;
 use std::marker::Model;
@@ -119,6 +121,7 @@ impl<'r, R: Files<File = File> + Sync> Disk for FileDisk<'r, R> {
     fn sync(&mut self) -> Result<(), Failed>
         ensures safe { OnOk result (IsSafe (face_of self.new)) }
         ensures shrinks { Shrinks (face_of self.old) (face_of self.new) }
+        ensures loses_none { OnErr result (Unchanged (face_of self.old) (face_of self.new)) }
         ensures call { Calls result (face_of self.old) (face_of self.new) }
 
         ensures nameless { self.old.named ≡ false → IsErr result }
@@ -186,7 +189,7 @@ fn counted<T: Drop>(faults: &mut u64, answer: io::Result<T>) -> Result<T, Failed
     match answer {
         Ok(value) => Ok(value),
         Err(_) => {
-            *faults = faults.saturating_add(1);
+            raise(faults);
             Err(Failed { faults: *faults })
         }
     }

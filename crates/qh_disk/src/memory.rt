@@ -1,8 +1,9 @@
-// A disk in memory.
+//! A disk in memory.
 ghost use Rattle.std.specs.Prelude.{◌≡◌, ◌<◌, ◌≤◌, ◌+◌, ◌⊎◌, ◌↔◌, [], ◌∷◌, length, take, drop, vec_len, map, reverse, Some, IfOk, OnOk, OnErr, IsErr};
 ghost use Rattle.std.specs.List.{All};
 ghost use Rattle.std.specs.Vec.{vec_capacity};
-ghost use Rattle.qh_disk.specs.Disk.{Becomes, overwritten, resized, raised, IsImage, Reads, Torn, Stretched, Calls, Unchanged, Shrinks, Turns, IsSafe};
+ghost use Rattle.qh_counts.specs.Counts.{raised};
+ghost use Rattle.qh_disk.specs.Disk.{Becomes, overwritten, resized, IsImage, Reads, Torn, Stretched, Calls, Unchanged, Shrinks, Turns, IsSafe};
 ghost use Rattle.qh_disk.specs.Moments.{Runs};
 ghost use Rattle.qh_disk.specs.Plan.{IsPlanned, listed};
 ghost use Rattle.qh_disk.specs.History.{HasRoom, left, picked, IsPicked, wrote, sized, synced, state_of, content_of, face_of, current_told, after_call, IsRefused, FailsOnly};
@@ -12,6 +13,7 @@ use crate::bytes::{copy, place, resize, with_room};
 use crate::change::{Change, make_place, note, remake};
 use crate::plan::Plan;
 use crate::{Disk, Failed, Pick};
+use qh_counts::raise;
 use std::alloc::{AllocError, Global};
 use std::marker::Model;
 
@@ -20,7 +22,8 @@ use std::marker::Model;
 ///
 /// Calls of `Disk` are numbered from 1, and those fail that a plan names. So does a length above
 /// the room, and a change whose record finds no memory. No other call fails. One that fails raises
-/// the count of faults and changes nothing else.
+/// the count of faults and leaves content and images as they are. Only one whose record found no
+/// memory raises the count of shortages too.
 #[derive(Drop)]
 pub struct MemDisk {
     alloc: Global,
@@ -83,7 +86,9 @@ impl MemDisk {
         })
     }
 
-    /// Numbers the calls from 1 anew, and plans anew which of them fail.
+    /// Numbers the calls from 1 anew, and plans anew which of them fail: the one with the number in
+    /// `fail`, and with `Some(n)` in `stop` each after the n-th. It changes nothing else and takes no
+    /// memory.
     pub fn again(&mut self, fail: Option<u64>, stop: Option<u64>)
         ensures { self.new ≡ record self.old { plan = record { calls = 0; fails = listed fail; stop = stop } } }
     {
@@ -217,7 +222,7 @@ impl Disk for MemDisk {
 
         ensures done { OnOk result (self.new ≡ after_call (synced ∷ []) self.old) }
         ensures refused { OnErr result (IsRefused self.old self.new) }
-        ensures unchanged { OnErr result (Unchanged (face_of self.old) (face_of self.new)) }
+        ensures loses_none { OnErr result (Unchanged (face_of self.old) (face_of self.new)) }
         ensures fails { FailsOnly (IsPlanned self.old.plan) result self.old self.new }
     {
         if self.plan.refuses() {
@@ -242,7 +247,7 @@ fn failed(faults: &mut u64) -> Failed
     ensures raised { faults.new ≡ raised faults.old }
     ensures count { result.faults ≡ faults.new }
 {
-    *faults = faults.saturating_add(1);
+    raise(faults);
     Failed { faults: *faults }
 }
 
@@ -252,7 +257,7 @@ fn fell_short(shortages: &mut u64, faults: &mut u64) -> Failed
     ensures raised { faults.new ≡ raised faults.old }
     ensures count { result.faults ≡ faults.new }
 {
-    *shortages = shortages.saturating_add(1);
+    raise(shortages);
     failed(faults)
 }
 

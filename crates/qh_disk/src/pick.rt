@@ -1,4 +1,4 @@
-// Which image a crash leaves.
+//! Which image a crash leaves.
 
 /// What a crash makes of that which was changed since the last sync.
 #[derive(Clone, Copy, Debug, PartialEq, Eq)]

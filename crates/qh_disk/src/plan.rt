@@ -1,7 +1,8 @@
-// Which calls of a disk in memory are to fail.
+//! Which calls of a disk in memory are to fail.
 ghost use Rattle.std.specs.Prelude.{◌≡◌, ◌≤◌, ◌↔◌, IsTrue, IfOk};
 ghost use Rattle.qh_disk.specs.Plan.{counted, IsPlanned, listed};
 
+use qh_counts::raise;
 use std::alloc::{AllocError, Global};
 use std::marker::Model;
 
@@ -44,7 +45,7 @@ impl Plan {
         ensures counted { self.new ≡ counted self.old }
         ensures planned { IsTrue result ↔ IsPlanned self.old }
     {
-        self.calls = self.calls.saturating_add(1);
+        raise(&mut self.calls);
         if self.fails.contains(&self.calls) {
             return true;
         }

@@ -1,5 +1,5 @@
-// What no contract says: that calls succeed where there is memory, what a real file gives back, and
-// hand-made examples of crashes.
+//! What no contract says: that calls succeed where there is memory, what a real file gives back, and
+//! hand-made examples of crashes.
 mod lent;
 mod real;
 

@@ -1,5 +1,5 @@
-// A struct that holds a lent disk loses nothing of it: what its calls did is known of the disk
-// after the struct is gone.
+//! A struct that holds a lent disk loses nothing of it: what its calls did is known of the disk
+//! after the struct is gone.
 ghost use Rattle.std.specs.Prelude.{◌≡◌, ◌≢◌, ◌≤◌, ◌+◌, ◌↔◌, [], ◌∷◌, ℕ, length, OnOk};
 ghost use Rattle.std.proofs.Common.{get_or};
 ghost use Rattle.qh_disk.specs.Disk.{Reads, Becomes, overwritten, Torn, Calls, Turns, IsSafe, IsHonest};

@@ -1,4 +1,4 @@
-// A disk over a real file.
+//! A disk over a real file.
 use crate::{Disk, Failed, FileDisk};
 use std::fs;
 use std::test::Fail;
