@@ -1,7 +1,7 @@
 -- Lemmas that the answers cite.
 pub mod RowLemmas
-mod PlaceLemmas
-mod WriteLemmas
-mod DoneLemmas
-mod MoveLemmas
-mod GroupLemmas
+pub mod PlaceLemmas
+pub mod WriteLemmas
+pub mod DoneLemmas
+pub mod MoveLemmas
+pub mod GroupLemmas

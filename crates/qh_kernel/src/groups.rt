@@ -1,5 +1,6 @@
 //! The indices that differ at a gate's qubits alone, and what becomes of their numbers.
 ghost use Rattle.std.specs.Prelude.{◌≡◌, ◌+◌, ◌*◌, ◌^◌, ◌<◌, ◌≤◌, length, All};
+ghost use Rattle.qh_limits.specs.Limits.{coefficient_bits, max_part_qubits};
 ghost use Rattle.qh_ring.specs.Numbers.{IsWithin};
 ghost use Rattle.qh_kernel.specs.Places.{with_gap};
 ghost use Rattle.qh_kernel.specs.Sources.{HasPlaces, moved};
@@ -17,8 +18,8 @@ pub(crate) fn stride_of(q: u32) -> usize
 
 /// The index whose bit at `q` is 0 and whose other bits are those of `p`, in order.
 pub(crate) fn index_with_gap(p: usize, q: u32) -> usize
-    requires qubit { q < 20 }
-    requires small { p < 2 ^ 20 }
+    requires qubit { q < max_part_qubits }
+    requires small { p < 2 ^ max_part_qubits }
     ensures { result ≡ with_gap q p }
 {
     (p >> q) * stride_of(q) + p
@@ -28,9 +29,9 @@ pub(crate) fn index_with_gap(p: usize, q: u32) -> usize
 pub(crate) fn move_pair(v: &mut [Omega], sources: &[Source; 2], places: &[usize; 2])
     requires places { All (λ k. k < length v.old) places.now }
     requires columns { HasPlaces 2 sources.now }
-    requires bounded { All (IsWithin 126) v.old }
+    requires bounded { All (IsWithin coefficient_bits) v.old }
     ensures value { v.new ≡ moved 2 sources.now places.now v.old }
-    ensures bounded { All (IsWithin 126) v.new }
+    ensures bounded { All (IsWithin coefficient_bits) v.new }
 {
     let low = new_number(v, sources[0], places);
     let high = new_number(v, sources[1], places);
@@ -42,9 +43,9 @@ pub(crate) fn move_pair(v: &mut [Omega], sources: &[Source; 2], places: &[usize;
 pub(crate) fn move_quad(v: &mut [Omega], sources: &[Source; 4], places: &[usize; 4])
     requires places { All (λ k. k < length v.old) places.now }
     requires columns { HasPlaces 4 sources.now }
-    requires bounded { All (IsWithin 126) v.old }
+    requires bounded { All (IsWithin coefficient_bits) v.old }
     ensures value { v.new ≡ moved 4 sources.now places.now v.old }
-    ensures bounded { All (IsWithin 126) v.new }
+    ensures bounded { All (IsWithin coefficient_bits) v.new }
 {
     let first = new_number(v, sources[0], places);
     let second = new_number(v, sources[1], places);

@@ -1,6 +1,7 @@
 //! Where the new numbers come from, for a matrix each of whose rows has at most one entry.
 ghost use Rattle.std.specs.Prelude.{◌≡◌, ◌↔◌, ◌<◌, ◌≤◌, length, IsTrue, All, IfSome, slice_index_or};
 ghost use Rattle.std.specs.List.{list_all};
+ghost use Rattle.qh_limits.specs.Limits.{coefficient_bits};
 ghost use Rattle.qh_ring.specs.Numbers.{IsWithin};
 ghost use Rattle.qh_ring.specs.States.{at_index};
 ghost use Rattle.qh_ring.specs.Units.{is_unit};
@@ -78,9 +79,9 @@ pub(crate) fn sources2(m: &Mat4) -> [Source; 4]
 pub(crate) fn new_number(v: &[Omega], source: Source, places: &[usize]) -> Option<Omega>
     requires places { All (λ k. k < length v.now) places.now }
     requires column { HasPlace (length places.now) source }
-    requires bounded { All (IsWithin 126) v.now }
+    requires bounded { All (IsWithin coefficient_bits) v.now }
     ensures value { result ≡ value_of source (λ c. at_index v.now (slice_index_or places.now c 0)) }
-    ensures bounded { IfSome result (IsWithin 126) }
+    ensures bounded { IfSome result (IsWithin coefficient_bits) }
 {
     match source {
         Source::Same => None,
@@ -92,10 +93,10 @@ pub(crate) fn new_number(v: &[Omega], source: Source, places: &[usize]) -> Optio
 /// Writes the number where there is one.
 pub(crate) fn put(v: &mut [Omega], place: usize, number: Option<Omega>)
     requires place { place < length v.old }
-    requires number { IfSome number (IsWithin 126) }
-    requires bounded { All (IsWithin 126) v.old }
+    requires number { IfSome number (IsWithin coefficient_bits) }
+    requires bounded { All (IsWithin coefficient_bits) v.old }
     ensures value { v.new ≡ put_at v.old place number }
-    ensures bounded { All (IsWithin 126) v.new }
+    ensures bounded { All (IsWithin coefficient_bits) v.new }
 {
     if let Some(z) = number {
         v[place] = z;

@@ -1,10 +1,12 @@
 //! The kernels against the sum of their definition on three qubits, and the limit on both sides.
 ghost use Rattle.std.specs.Prelude.{◌↔◌, All, IsTrue};
+ghost use Rattle.qh_limits.specs.Limits.{coefficient_bits};
 ghost use Rattle.qh_ring.specs.Numbers.{IsWithin};
 ghost use Rattle.qh_kernel.specs.Rows.{are_single};
 
 use crate::sources::is_single_row;
 use crate::{Over, apply1, apply2, ground_vector};
+use qh_limits::COEFFICIENT_BITS;
 use qh_ring::{Entry, Mat2, Mat4, Omega, within};
 use std::test::Fail;
 
@@ -25,9 +27,9 @@ const P6: Entry = Entry::Unit(6);
 const LIMIT: i128 = 85070591730234615865843651857942052864;
 
 fn all_within(v: &[Omega]) -> bool
-    ensures { IsTrue result ↔ All (IsWithin 126) v.now }
+    ensures { IsTrue result ↔ All (IsWithin coefficient_bits) v.now }
 {
-    v.iter().all(|z| within(z, 126))
+    v.iter().all(|z| within(z, COEFFICIENT_BITS))
 }
 
 fn are_single_rows(m: &Mat4) -> bool

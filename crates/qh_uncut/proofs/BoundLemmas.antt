@@ -1,7 +1,8 @@
 -- How fast the numbers grow: a row of the table has at most two entries.
-use Rattle.std.proofs.Common.{◌≡◌, ◌≢◌, ℕ, zero, suc, ◌+◌, ◌*◌, ◌^◌, ◌<◌, ◌≤◌, inl, inr, Bool, true, false, cond, IsTrue, List, [], ◌∷◌, length, map, take, get_or, unsigned_abs, ◌⊎◌, ◌&&◌, ◌==◌, arith, refl, sym, ap, subst, ◌∙◌}
+use Rattle.std.proofs.Common.{◌≡◌, ◌≢◌, ℕ, zero, suc, ◌+◌, ◌*◌, ◌^◌, ◌<◌, ◌≤◌, inl, inr, Bool, true, false, cond, IsTrue, List, [], ◌∷◌, length, map, take, get_or, unsigned_abs, ◌⊎◌, ◌&&◌, ◌||◌, ◌==◌, arith, refl, sym, ap, subst, ◌∙◌}
 use Rattle.std.specs.List.{count_by, list_all}
 use Rattle.std.proofs.lemmas.Int.{ints}
+use Rattle.std.proofs.lemmas.Bool.{or_cases, and_parts, eqb-true}
 use Rattle.std.proofs.lemmas.List.{length-take}
 use Rattle.std.proofs.Math.Nat.{pow-succ'}
 use Rattle.std.proofs.Math.Pow.{pow_mono}
@@ -15,10 +16,10 @@ use Rattle.qh_ring.proofs.NumberLemmas.{turned, turned_by, unit_power_times, not
 use Rattle.qh_ring.proofs.SumLemmas.{sum_nothing, nothing_sum, sum_below_none}
 use Rattle.qh_gates.specs.declared.gate.Gate.{Gate}
 use Rattle.qh_gates.specs.declared.kind.Kind.{Kind}
-use Rattle.qh_gates.specs.declared.kind.Kind.TheVariants.{H, T, X, Y, Z, X12, Y12, Hz12, Cz, Cnot, Is, S, Sw, Id1, Id2}
 use Rattle.qh_gates.specs.Tables.{matrix_of, qubits_of}
 use Rattle.qh_gates.specs.Evolution.{evolved, wires, operation_of, uncut, StateFits, IsUncutOver}
 use Rattle.qh_gates.specs.Circuits.{Circuit}
+use Rattle.qh_gates.proofs.KindLemmas.{each_kind}
 use Rattle.qh_kernel.specs.Rows.{is_entry, is_single, are_single}
 use Rattle.qh_kernel.proofs.RowLemmas.{beside, at_most}
 use Rattle.qh_uncut.specs.Bounds.{IsAtMost}
@@ -87,23 +88,16 @@ single_row (row ∷ rows) (suc r) t = single_row rows r (rest (is_single row) (l
     rest true b u = u
     rest false b u = absurd (cc)
 
+is_simple : Kind → Bool
+is_simple k = qubits_of k == 1 || (qubits_of k == 2 && are_single (matrix_of k))
+
 -- a gate acts on one qubit, or on two by single rows
-pub one_or_two : (k : Kind) → (qubits_of k ≡ 1) ⊎ ((qubits_of k ≡ 2) × IsTrue (are_single (matrix_of k)))
-one_or_two H = inl refl
-one_or_two T = inl refl
-one_or_two X = inl refl
-one_or_two Y = inl refl
-one_or_two Z = inl refl
-one_or_two X12 = inl refl
-one_or_two Y12 = inl refl
-one_or_two Hz12 = inl refl
-one_or_two Cz = inr (refl, refl)
-one_or_two Cnot = inr (refl, refl)
-one_or_two Is = inr (refl, refl)
-one_or_two S = inl refl
-one_or_two Sw = inr (refl, refl)
-one_or_two Id1 = inl refl
-one_or_two Id2 = inr (refl, refl)
+pub one_or_single : (k : Kind) → (qubits_of k ≡ 1) ⊎ ((qubits_of k ≡ 2) × IsTrue (are_single (matrix_of k)))
+unfolding is_simple
+one_or_single k = elim (or_cases _ _ (each_kind is_simple refl k)) [
+  | inl one ↦ inl (eqb-true _ _ one)
+  | inr two ↦ let both = and_parts _ _ two in inr (eqb-true _ _ both.0, both.1)
+]
 
 at_most_one : (b : ℕ) (rows : List (List Entry)) (q : ℕ) (v : ℕ → Omega) (x : ℕ) → ((y : ℕ) → IsAtMost b (v y)) → IsAtMost (2 * b) (applied (number_in rows) (q ∷ []) v x)
 unfolding applied
@@ -121,13 +115,13 @@ at_most_two b rows p q v x t h =
     (at_most_single b 4 (get_or rows r []) (λ c. v (with_bits (p ∷ q ∷ []) c x)) (single_row rows r t) (λ c. h (with_bits (p ∷ q ∷ []) c x)))
 
 pub one_wire : (g : Gate) → (qubits_of g.kind ≡ 2 → ⊥) → wires g ≡ g.q0 ∷ []
-one_wire g other = elim (one_or_two g.kind) [
+one_wire g other = elim (one_or_single g.kind) [
   | inl e ↦ subst (λ n. cond (n == 2) (g.q0 ∷ g.q1 ∷ []) (g.q0 ∷ []) ≡ g.q0 ∷ []) (sym e) refl
   | inr e ↦ absurd (other e.0)
 ]
 
 pub gate_doubles : (b : ℕ) (g : Gate) (v : ℕ → Omega) (x : ℕ) → ((y : ℕ) → IsAtMost b (v y)) → IsAtMost (2 * b) (applied (number_in (matrix_of g.kind)) (wires g) v x)
-gate_doubles b g v x h = elim (one_or_two g.kind) [
+gate_doubles b g v x h = elim (one_or_single g.kind) [
   | inl e ↦ subst (λ n. IsAtMost (2 * b) (applied (number_in (matrix_of g.kind)) (cond (n == 2) (g.q0 ∷ g.q1 ∷ []) (g.q0 ∷ [])) v x)) (sym e) (at_most_one b (matrix_of g.kind) g.q0 v x h)
   | inr e ↦ subst (λ n. IsAtMost (2 * b) (applied (number_in (matrix_of g.kind)) (cond (n == 2) (g.q0 ∷ g.q1 ∷ []) (g.q0 ∷ [])) v x)) (sym e.0) (at_most_two b (matrix_of g.kind) g.q0 g.q1 v x e.1 h)
 ]
@@ -147,13 +141,14 @@ pub uncut_at_most : (gates : List Gate) (x : ℕ) → IsAtMost (2 ^ length gates
 uncut_at_most gates x = at_most_more (1 * 2 ^ length gates) (2 ^ length gates) _ (omega arith) (gates_double gates 1 ground at_most_ground x)
 
 -- so no state after at most 125 gates overflows
-pub short_fits : (n : ℕ) (gates : List Gate) → length gates ≤ 125 → StateFits n (uncut gates)
+pub short_fits : (n : ℕ) (gates : List Gate) → length gates < 126 → StateFits n (uncut gates)
 short_fits n gates l x b =
-    let m : 2 ^ length gates ≤ 2 ^ 125 = pow_mono l in
+    let few : length gates ≤ 125 = omega arith in
+    let m : 2 ^ length gates ≤ 2 ^ 125 = pow_mono few in
     let h = uncut_at_most gates x in
     let ha = h.a in let hb = h.b in let hc = h.c in let hd = h.d in
     record { a = omega arith; b = omega arith; c = omega arith; d = omega arith }
 
 -- a circuit of at most 125 gates has no gate that overflows
-pub short_never : (c : Circuit) (gate : ℕ) → length c.gates ≤ 125 → IsUncutOver c gate → ⊥
+pub short_never : (c : Circuit) (gate : ℕ) → length c.gates < 126 → IsUncutOver c gate → ⊥
 short_never c gate l o = o.over (short_fits c.qubits (take (gate + 1) c.gates) (let t = length-take (gate + 1) c.gates in omega arith))

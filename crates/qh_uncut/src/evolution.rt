@@ -1,5 +1,6 @@
 //! The evolution, gate by gate.
-ghost use Rattle.std.specs.Prelude.{◌≡◌, ◌^◌, ◌≤◌, length, All, IfOk, IfErr, OnOk, OnErr};
+ghost use Rattle.std.specs.Prelude.{◌≡◌, ◌^◌, ◌<◌, ◌≤◌, length, All, IfOk, IfErr, OnOk, OnErr};
+ghost use Rattle.qh_limits.specs.Limits.{coefficient_bits, max_part_qubits, max_uncut_qubits};
 ghost use Rattle.qh_ring.specs.Numbers.{IsWithin};
 ghost use Rattle.qh_ring.specs.Matrices.{number_in};
 ghost use Rattle.qh_ring.specs.States.{applied_list, listed};
@@ -18,12 +19,12 @@ use std::alloc::Global;
 /// Qubit q is bit q of an index. The circuit has at most 16 qubits. Over names the first gate after which a
 /// coefficient's magnitude is 2^126 or more; a circuit of at most 125 gates has none.
 pub fn evolve(alloc: Global, circuit: &Circuit) -> Result<Vec<Omega>, UncutFault>
-    requires { circuit.now.qubits ≤ 16 }
+    requires { circuit.now.qubits ≤ max_uncut_qubits }
     ensures exact { IfOk result (λ v. v.items ≡ listed circuit.now.qubits (uncut circuit.now.gates)) }
-    ensures within { IfOk result (λ v. All (IsWithin 126) v.items) }
+    ensures within { IfOk result (λ v. All (IsWithin coefficient_bits) v.items) }
     ensures never { OnOk result (NeverOver circuit.now) }
     ensures cause { IfErr result (IsCause circuit.now) }
-    ensures short { length circuit.now.gates ≤ 125 → IfErr result (λ fault. fault ≡ UncutFault.Memory) }
+    ensures short { length circuit.now.gates < coefficient_bits → IfErr result (λ fault. fault ≡ UncutFault.Memory) }
 {
     let qubits = circuit.qubits();
     let Ok(mut v) = ground_vector(alloc, qubits) else {
@@ -39,13 +40,13 @@ pub fn evolve(alloc: Global, circuit: &Circuit) -> Result<Vec<Omega>, UncutFault
 
 /// Applies a gate's matrix on its qubits.
 fn apply_gate(v: &mut [Omega], qubits: u32, gate: &Gate) -> Result<(), Over>
-    requires few { qubits ≤ 20 }
+    requires few { qubits ≤ max_part_qubits }
     requires numbers { length v.old ≡ 2 ^ qubits }
     requires fits { Fits qubits gate.now }
-    requires bounded { All (IsWithin 126) v.old }
+    requires bounded { All (IsWithin coefficient_bits) v.old }
     ensures exact { OnOk result (v.new ≡ applied_list (number_in (matrix_of gate.now.kind)) (wires gate.now) v.old) }
-    ensures bounded { OnOk result (All (IsWithin 126) v.new) }
-    ensures over { OnErr result (¬ All (IsWithin 126) (applied_list (number_in (matrix_of gate.now.kind)) (wires gate.now) v.old)) }
+    ensures bounded { OnOk result (All (IsWithin coefficient_bits) v.new) }
+    ensures over { OnErr result (¬ All (IsWithin coefficient_bits) (applied_list (number_in (matrix_of gate.now.kind)) (wires gate.now) v.old)) }
 {
     if arity(gate.kind) == 2 {
         apply2(v, qubits, &matrix2(gate.kind), gate.q0, gate.q1);

@@ -1,22 +1,26 @@
-//! Every kind against the sum of its definition, and the first gate that overflows.
+//! Vectors that were worked out by hand or by a program of its own, and the first gate that overflows.
 use crate::{UncutFault, evolve};
-use qh_gates::{Circuit, Gate, Kind, arity, matrix1, matrix2};
-use qh_ring::{Entry, Omega};
+use qh_gates::{Circuit, Gate, Kind, arity};
+use qh_limits::{MAX_QUBITS, MAX_UNCUT_QUBITS};
+use qh_ring::Omega;
 use std::alloc::{AllocError, Global};
 use std::process::Abort;
 use std::test::Fail;
+
+/// A kind and its qubits.
+type Row = (Kind, u32, u32);
 
 /// The circuit of these gates, one at a time.
 fn circuit_of(
     rt: &impl Abort,
     alloc: Global,
     qubits: u32,
-    gates: &[(Kind, u32, u32)],
+    rows: &[Row],
 ) -> Result<Circuit, AllocError> {
-    assert!(rt; 1 <= qubits && qubits <= 40 && gates.len() <= 4096);
+    assert!(rt; 1 <= qubits && qubits <= MAX_QUBITS);
     let mut circuit = Circuit::start(alloc, qubits);
     let mut time = 0u32;
-    for (kind, q0, q1) in gates {
+    for (kind, q0, q1) in rows {
         let next = Gate {
             time,
             kind: *kind,
@@ -31,84 +35,49 @@ fn circuit_of(
     Ok(circuit)
 }
 
-/// A kind's rows, with none past the second of a kind on one qubit.
-fn rows_of(kind: Kind) -> [[Entry; 4]; 4] {
-    let none = Entry::Zero;
-    if arity(kind) == 2 {
-        return matrix2(kind).rows;
-    }
-    let [first, second] = matrix1(kind).rows;
-    [
-        [first[0], first[1], none, none],
-        [second[0], second[1], none, none],
-        [none; 4],
-        [none; 4],
-    ]
+fn number(a: i128, b: i128, c: i128, d: i128) -> Omega {
+    Omega { a, b, c, d }
 }
 
-/// z ω^j by j single steps.
-fn turned(z: &Omega, j: u8) -> Omega {
-    let mut turned = *z;
-    for _step in 0..j {
-        turned = Omega {
-            a: turned.d.wrapping_neg(),
-            b: turned.a,
-            c: turned.b,
-            d: turned.c,
+/// Circuits of two qubits and their four numbers, by hand from the table of the gates.
+#[test]
+fn two_qubits(rt: HostRuntime) -> Result<(), Fail> {
+    let (o, l, i, w) = (
+        Omega::ZERO,
+        Omega::ONE,
+        number(0, 0, 1, 0),
+        number(0, 1, 0, 0),
+    );
+    let h0 = (Kind::H, 0, 0);
+    let h1 = (Kind::H, 1, 1);
+    for (rows, wanted) in [
+        ([h0, (Kind::Cnot, 0, 1), (Kind::Id1, 0, 0)], [l, o, o, l]),
+        ([h0, (Kind::Cnot, 1, 0), (Kind::Id1, 1, 1)], [l, l, o, o]),
+        ([h0, (Kind::Is, 0, 1), (Kind::Id2, 0, 1)], [l, o, i, o]),
+        ([h1, (Kind::Is, 0, 1), (Kind::Id2, 1, 0)], [l, i, o, o]),
+        ([h0, (Kind::Sw, 0, 1), (Kind::T, 1, 1)], [l, o, w, o]),
+        ([h0, h1, (Kind::Cz, 1, 0)], [l, l, l, number(-1, 0, 0, 0)]),
+        (
+            [h0, (Kind::T, 0, 0), (Kind::Y, 1, 1)],
+            [o, o, i, number(0, 0, 0, 1)],
+        ),
+        (
+            [(Kind::X, 1, 1), (Kind::Z, 1, 1), (Kind::S, 1, 1)],
+            [o, o, number(0, 0, -1, 0), o],
+        ),
+    ] {
+        let circuit = circuit_of(&rt, rt.alloc(), 2, &rows)?;
+        assert!(rt; circuit.qubits() <= MAX_UNCUT_QUBITS);
+        let Ok(v) = evolve(rt.alloc(), &circuit) else {
+            return Err(Fail::from(AllocError));
         };
+        assert_eq!(rt; v.as_slice(), wanted.as_slice(), "{rows:?}");
     }
-    turned
+    Ok(())
 }
 
-/// The sum of the definition: over all settings of the qubits, the first qubit the high place.
-fn by_definition(v: &[Omega; 8], rows: &[[Entry; 4]; 4], qubits: &[u32]) -> [Omega; 8] {
-    let mut new = [Omega::ZERO; 8];
-    for x in 0..8usize {
-        let row = place(x, qubits);
-        for column in 0..4usize {
-            if let Entry::Unit(j) = rows[row % 4][column] {
-                let y = with_setting(x, qubits, column);
-                let term = turned(&v[y % 8], j);
-                let sum = new[x];
-                new[x] = Omega {
-                    a: sum.a.wrapping_add(term.a),
-                    b: sum.b.wrapping_add(term.b),
-                    c: sum.c.wrapping_add(term.c),
-                    d: sum.d.wrapping_add(term.d),
-                };
-            }
-        }
-    }
-    new
-}
-
-/// The bits of x at these qubits.
-fn place(x: usize, qubits: &[u32]) -> usize {
-    let mut place = 0usize;
-    for q in qubits {
-        place = place.wrapping_mul(2) | (x >> (q % 3) & 1);
-    }
-    place
-}
-
-/// x with these qubits set to the bits of a column.
-fn with_setting(x: usize, qubits: &[u32], column: usize) -> usize {
-    let mut y = x;
-    let mut rest = column;
-    for q in qubits.iter().rev() {
-        let weight = 1usize << (q % 3);
-        y = if rest % 2 == 1 {
-            y | weight
-        } else {
-            y & !weight
-        };
-        rest /= 2;
-    }
-    y
-}
-
-/// Gates that make all eight numbers differ.
-const STIRRED: [(Kind, u32, u32); 12] = [
+/// Every kind, on three qubits.
+const EVERY_KIND: [Row; 18] = [
     (Kind::H, 0, 0),
     (Kind::T, 0, 0),
     (Kind::H, 1, 1),
@@ -119,78 +88,78 @@ const STIRRED: [(Kind, u32, u32); 12] = [
     (Kind::Hz12, 0, 0),
     (Kind::Cz, 1, 0),
     (Kind::Y12, 1, 1),
-    (Kind::T, 2, 2),
+    (Kind::Sw, 0, 2),
+    (Kind::Y, 2, 2),
     (Kind::H, 2, 2),
+    (Kind::Z, 2, 2),
+    (Kind::X, 1, 1),
+    (Kind::Id1, 0, 0),
+    (Kind::Id2, 2, 0),
+    (Kind::T, 2, 2),
 ];
 
-const KINDS: [Kind; 15] = [
-    Kind::H,
-    Kind::T,
-    Kind::X,
-    Kind::Y,
-    Kind::Z,
-    Kind::X12,
-    Kind::Y12,
-    Kind::Hz12,
-    Kind::Cz,
-    Kind::Cnot,
-    Kind::Is,
-    Kind::S,
-    Kind::Sw,
-    Kind::Id1,
-    Kind::Id2,
-];
-
-fn slow(gates: &[(Kind, u32, u32)]) -> [Omega; 8] {
-    let mut v = [Omega::ZERO; 8];
-    v[0] = Omega::ONE;
-    for (kind, q0, q1) in gates {
-        v = if arity(*kind) == 2 {
-            by_definition(&v, &rows_of(*kind), &[*q0, *q1])
-        } else {
-            by_definition(&v, &rows_of(*kind), &[*q0])
-        };
-    }
-    v
-}
-
+/// The eight numbers are products of whole 8 by 8 matrices, from a program in another language; in the second row the
+/// two qubits of each gate are exchanged.
 #[test]
 fn every_kind(rt: HostRuntime) -> Result<(), Fail> {
-    for kind in KINDS {
-        for (q0, q1) in [(0, 1), (1, 0), (0, 2), (2, 0), (1, 2), (2, 1)] {
-            let mut gates = STIRRED;
-            gates[9] = (kind, q0, if arity(kind) == 2 { q1 } else { q0 });
-            let circuit = circuit_of(&rt, rt.alloc(), 3, &gates)?;
-            assert!(rt; circuit.qubits() <= 16);
-            let Ok(v) = evolve(rt.alloc(), &circuit) else {
-                return Err(Fail::from(AllocError));
-            };
-            assert_eq!(rt;
-                v.as_slice(),
-                slow(&gates).as_slice(),
-                "{kind:?} on {q0} {q1}"
-            );
+    for (exchanged, wanted) in [
+        (
+            false,
+            [
+                number(2, 0, 0, -2),
+                number(0, -2, 2, 0),
+                number(2, 0, 0, 2),
+                number(0, 2, 2, 0),
+                number(2, -2, 0, 0),
+                number(0, 0, -2, -2),
+                number(-2, -2, 0, 0),
+                number(0, 0, 2, -2),
+            ],
+        ),
+        (
+            true,
+            [
+                number(2, -2, 0, 0),
+                number(-2, -2, 0, 0),
+                number(0, 0, 2, 2),
+                number(0, 0, 2, -2),
+                number(0, -2, -2, 0),
+                number(0, 2, -2, 0),
+                number(-2, 0, 0, -2),
+                number(2, 0, 0, -2),
+            ],
+        ),
+    ] {
+        let mut rows = EVERY_KIND;
+        for row in &mut rows {
+            if exchanged {
+                *row = (row.0, row.2, row.1);
+            }
         }
+        let circuit = circuit_of(&rt, rt.alloc(), 3, &rows)?;
+        assert!(rt; circuit.qubits() <= MAX_UNCUT_QUBITS);
+        let Ok(v) = evolve(rt.alloc(), &circuit) else {
+            return Err(Fail::from(AllocError));
+        };
+        assert_eq!(rt; v.as_slice(), wanted.as_slice(), "exchanged: {exchanged}");
     }
     Ok(())
 }
 
+/// Two `h` double the numbers, so 251 leave 2^125 twice, and the next one gives 2^126.
 #[test]
 fn overflow(rt: HostRuntime) -> Result<(), Fail> {
-    let gates = [(Kind::H, 0, 0); 252];
-    let fine = circuit_of(&rt, rt.alloc(), 1, &gates[..251])?;
-    assert!(rt; fine.qubits() <= 16);
+    let rows = [(Kind::H, 0, 0); 252];
+    let fine = circuit_of(&rt, rt.alloc(), 1, &rows[..251])?;
+    assert!(rt; fine.qubits() <= MAX_UNCUT_QUBITS);
     let Ok(v) = evolve(rt.alloc(), &fine) else {
         return Err(Fail::from(AllocError));
     };
-    let top = Omega {
-        a: 42535295865117307932921825928971026432,
-        ..Omega::ZERO
-    };
+    let top = number(42535295865117307932921825928971026432, 0, 0, 0);
     let both = [top, top];
     assert_eq!(rt; v.as_slice(), both.as_slice());
-    let over = circuit_of(&rt, rt.alloc(), 1, &gates)?;
-    assert!(rt; over.qubits() <= 16);
+    let over = circuit_of(&rt, rt.alloc(), 1, &rows)?;
+    assert!(rt; over.qubits() <= MAX_UNCUT_QUBITS);
     let answer = evolve(rt.alloc(), &over);
     assert!(rt; matches!(answer, Err(UncutFault::Over { gate: 251 })));
     Ok(())
