@@ -1,5 +1,5 @@
 -- Circuits whose gates are the front of a valid circuit's gates.
-use Rattle.std.proofs.Common.{◌≡◌, ℕ, zero, suc, ◌+◌, ◌<◌, ◌≤◌, inl, inr, List, [], ◌∷◌, ◌++◌, length, get_or, All, refl, sym, subst, ◌∙◌, arith, length-append}
+use Rattle.std.proofs.Common.{◌≡◌, ℕ, zero, suc, ◌+◌, ◌^◌, ◌<◌, ◌≤◌, inl, inr, List, [], ◌∷◌, ◌++◌, length, get_or, All, refl, sym, subst, ◌∙◌, arith, length-append}
 use Rattle.std.specs.List.{AllPairs}
 use Rattle.std.proofs.lemmas.List.{get_or_append_left, get_or_at}
 use Rattle.std.proofs.lemmas.List.Elements.{All-append, All-head, All-tail}
@@ -17,6 +17,7 @@ circuit_front n xs ys h = record {
   few = h.few;
   short = let s = h.short in omega (arith, length-append xs ys);
   fit = λ k d l. subst (Fits n) (get_or_append_left xs ys d k l) (h.fit k d (omega (arith, length-append xs ys)));
+  times = λ k d l. subst (λ (g : Gate). g.time < 2 ^ 32) (get_or_append_left xs ys d k l) (h.times k d (omega (arith, length-append xs ys)));
   ordered = λ i j d l m.
       subst (λ x. InOrder x (get_or xs j d)) (get_or_append_left xs ys d i (omega arith))
       (subst (λ y. InOrder (get_or (xs ++ ys) i d) y) (get_or_append_left xs ys d j m) (h.ordered i j d l (omega (arith, length-append xs ys))));

@@ -278,5 +278,6 @@ generated_valid start rows cols depth r c few shallow =
       few = few;
       short = let s = generated_short start rows cols depth c few shallow in omega arith;
       fit = whole.fit;
+      times = All-weaker (λ g. g.time < depth + 1 + 1) (λ g. g.time < 2 ^ 32) (λ g early. omega arith) (generated_gates start rows cols depth) whole.before;
       ordered = whole.ordered;
     }

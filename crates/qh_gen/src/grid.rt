@@ -1,5 +1,6 @@
 //! The pairs of a grid.
 ghost use Rattle.std.specs.Prelude.{◌≡◌, ◌≤◌, ◌<◌, ◌*◌};
+ghost use Rattle.qh_limits.specs.Limits.{max_qubits};
 ghost use Rattle.qh_gen.specs.Grids.{distance, is_alone, is_lower, is_upper, starts_at};
 
 /// A grid of `rows` by `cols` qubits, of which it has 1 to 40. The qubit in row y and column x is number y·cols + x.
@@ -9,7 +10,7 @@ pub(crate) struct Grid {
     pub(crate) cols: u32,
     ghost some_rows: { 1 ≤ rows },
     ghost some_cols: { 1 ≤ cols },
-    ghost few: { rows * cols ≤ 40 },
+    ghost few: { rows * cols ≤ max_qubits },
 }
 
 /// Whether the pattern pairs this place with the next one, and the next one lies in the grid.
@@ -32,7 +33,7 @@ impl Grid {
     pub(crate) fn distance(&self, pattern: u32) -> u32
         ensures value { result ≡ distance self.now.cols pattern }
         ensures some { 1 ≤ result }
-        ensures few { result ≤ 40 }
+        ensures few { result ≤ max_qubits }
     {
         if pattern % 2 == 0 { 1 } else { self.cols }
     }

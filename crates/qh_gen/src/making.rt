@@ -1,5 +1,6 @@
 //! Makes the circuit.
 ghost use Rattle.std.specs.Prelude.{◌≡◌, ◌≤◌, ◌*◌, IfOk, length};
+ghost use Rattle.qh_limits.specs.Limits.{max_layers, max_qubits};
 ghost use Rattle.qh_gen.specs.Grids.{generated};
 
 use crate::grid::Grid;
@@ -24,8 +25,8 @@ pub fn generate(
 ) -> Result<Circuit, AllocError>
     requires some_rows { 1 ≤ rows }
     requires some_cols { 1 ≤ cols }
-    requires few { rows * cols ≤ 40 }
-    requires shallow { depth ≤ 100 }
+    requires few { rows * cols ≤ max_qubits }
+    requires shallow { depth ≤ max_layers }
     ensures value { IfOk result (λ circuit. circuit ≡ generated start rows cols depth) }
     ensures short { IfOk result (λ circuit. length circuit.gates ≤ 4080) }
 {

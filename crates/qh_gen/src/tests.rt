@@ -1,11 +1,12 @@
-// What no clause can say: that the definition means what a person reads, and that a circuit is made with memory at hand.
+//! What no clause can say: that the definition means what a person reads, and that a circuit is made with memory at hand.
 use crate::generate;
 use qh_gates::{Circuit, Gate, Kind};
+use qh_limits::{MAX_LAYERS, MAX_QUBITS};
 use std::alloc::AllocError;
 use std::process::Abort;
 use std::test::Fail;
 
-// How many of the gates are of this kind.
+/// How many of the gates are of this kind.
 fn count(circuit: &Circuit, kind: Kind) -> usize {
     circuit
         .gates()
@@ -14,7 +15,7 @@ fn count(circuit: &Circuit, kind: Kind) -> usize {
         .count()
 }
 
-// How many pairs have a qubit below `qubit` and one from there on, at this time.
+/// How many pairs have a qubit below `qubit` and one from there on, at this time.
 fn crossing(circuit: &Circuit, qubit: u32, time: u32) -> usize {
     circuit
         .gates()
@@ -28,11 +29,15 @@ fn the_grid_of_4_by_4_has_its_counts(rt: HostRuntime) -> Result<(), Fail> {
     let circuit = generate(rt.alloc(), 1, 4, 4, 10)?;
     assert_eq!(rt; circuit.qubits(), 16);
     assert_eq!(rt; circuit.gates().len(), 128);
-    assert_eq!(rt; count(&circuit, Kind::H), 32);
-    assert_eq!(rt; count(&circuit, Kind::Cz), 64);
-    assert_eq!(rt; count(&circuit, Kind::T), 13);
-    assert_eq!(rt; count(&circuit, Kind::X12), 10);
-    assert_eq!(rt; count(&circuit, Kind::Y12), 9);
+    for (kind, wanted) in [
+        (Kind::H, 32),
+        (Kind::Cz, 64),
+        (Kind::T, 13),
+        (Kind::X12, 10),
+        (Kind::Y12, 9),
+    ] {
+        assert_eq!(rt; count(&circuit, kind), wanted, "{kind:?}");
+    }
     for time in 0..12 {
         let pairs = if time == 4 || time == 8 { 4 } else { 0 };
         assert_eq!(rt; crossing(&circuit, 8, time), pairs, "{time}");
@@ -153,7 +158,7 @@ fn large_grids_have_their_sizes(rt: HostRuntime) -> Result<(), Fail> {
     Ok(())
 }
 
-// The generated circuit, of a grid that is one.
+/// The generated circuit, of a grid that is one.
 fn make(
     rt: &(impl Abort + AllocGlobal),
     start: u64,
@@ -161,9 +166,9 @@ fn make(
     cols: u32,
     depth: u32,
 ) -> Result<Circuit, AllocError> {
-    assert!(rt; 1 <= rows && rows <= 40);
-    assert!(rt; 1 <= cols && cols <= 40);
-    assert!(rt; rows * cols <= 40);
-    assert!(rt; depth <= 100);
+    assert!(rt; 1 <= rows && rows <= MAX_QUBITS);
+    assert!(rt; 1 <= cols && cols <= MAX_QUBITS);
+    assert!(rt; rows * cols <= MAX_QUBITS);
+    assert!(rt; depth <= MAX_LAYERS);
     generate(rt.alloc(), start, rows, cols, depth)
 }

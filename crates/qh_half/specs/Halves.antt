@@ -1,5 +1,6 @@
 -- A half as contracts see it: its numbers, or none where it is over.
 use Rattle.std.specs.Prelude.{◌≡◌, ℕ, ◌≤◌, ◌^◌, Bool, false, List, length, All, Option, Some, None, IfSome}
+use Rattle.qh_limits.specs.Limits.{coefficient_bits, max_part_qubits}
 use Rattle.qh_ring.specs.declared.number.Omega.{Omega}
 use Rattle.qh_ring.specs.Numbers.{IsWithin}
 use Rattle.qh_ring.specs.States.{applied_list}
@@ -11,21 +12,21 @@ pub record Half : Type 0 where
 -- 2^qubits numbers, each within 126 bits
 pub record IsVector (qubits : ℕ) (v : List Omega) : Type 0 where
   pub len : length v ≡ 2 ^ qubits
-  pub within : All (IsWithin 126) v
+  pub within : All (IsWithin coefficient_bits) v
 
 -- at most 20 qubits, and a vector where it is not over
 pub record IsHalf (h : Half) : Type 0 where
-  pub few : h.qubits ≤ 20
+  pub few : h.qubits ≤ max_part_qubits
   pub vector : IfSome h.numbers (IsVector h.qubits)
 
 -- what the code keeps: room for 2^qubits numbers, which are within 126 bits unless it is over
 pub record IsKept (qubits : ℕ) (over : Bool) (v : List Omega) : Type 0 where
-  pub few : qubits ≤ 20
+  pub few : qubits ≤ max_part_qubits
   pub len : length v ≡ 2 ^ qubits
-  pub within : over ≡ false → All (IsWithin 126) v
+  pub within : over ≡ false → All (IsWithin coefficient_bits) v
 
 -- the numbers after a matrix, none where it was over or one of them comes to 2^126
 abbrev pub AfterMatrix : (ℕ → ℕ → Omega) → List ℕ → Option (List Omega) → Option (List Omega) → Type 0
 AfterMatrix m qs None new = new ≡ None
-AfterMatrix m qs (Some v) None = ¬ All (IsWithin 126) (applied_list m qs v)
-AfterMatrix m qs (Some v) (Some w) = (w ≡ applied_list m qs v) × All (IsWithin 126) w
+AfterMatrix m qs (Some v) None = ¬ All (IsWithin coefficient_bits) (applied_list m qs v)
+AfterMatrix m qs (Some v) (Some w) = (w ≡ applied_list m qs v) × All (IsWithin coefficient_bits) w

@@ -1,5 +1,6 @@
 //! A half state.
 ghost use Rattle.std.specs.Prelude.{◌≡◌, ◌≢◌, ◌≤◌, ◌<◌, ◌+◌, ◌^◌, [], ◌∷◌, IfOk, IfSome, IsSome, IsNone, OnOk, OnErr, IsTrue, ◌↔◌, Some};
+ghost use Rattle.qh_limits.specs.Limits.{coefficient_bits, max_part_qubits};
 ghost use Rattle.qh_ring.specs.Numbers.{IsWithin};
 ghost use Rattle.qh_ring.specs.Matrices.{number_in};
 ghost use Rattle.qh_ring.specs.States.{at_index, listed, ground};
@@ -38,7 +39,7 @@ impl Half {
     /// The half of 1 to 20 qubits with 1 at index 0 and 0 elsewhere. It takes 64 bytes a number.
     pub fn ground(alloc: Global, qubits: u32) -> Result<Half, AllocError>
         requires some { 1 ≤ qubits }
-        requires few { qubits ≤ 20 }
+        requires few { qubits ≤ max_part_qubits }
         ensures { IfOk result (λ h. h ≡ record { qubits = qubits; numbers = Some (listed qubits ground) }) }
     {
         let numbers = ground_vector(alloc, qubits)?;
@@ -70,7 +71,7 @@ impl Half {
         requires held { IsSome self.now.numbers }
         requires index { index < 2 ^ self.now.qubits }
         ensures value { IfSome self.now.numbers (λ v. result ≡ at_index v index) }
-        ensures bounded { IsWithin 126 result }
+        ensures bounded { IsWithin coefficient_bits result }
     {
         self.numbers[index as usize]
     }

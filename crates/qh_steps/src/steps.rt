@@ -4,7 +4,7 @@ ghost use Rattle.std.specs.Prelude.{◌≡◌, ◌<◌, ◌+◌};
 use std::marker::Model;
 use std::sync::ledger::{Blank, Book, Ledger, Share};
 
-/// How many steps were taken. Contracts see the number; the program sees nothing of it.
+/// How often the calls that were handed this counter have ticked. Contracts see the number; the program sees nothing of it.
 #[derive(Drop)]
 pub struct Steps<L: Ledger> {
     book: Book<L>,
