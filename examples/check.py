@@ -71,7 +71,7 @@ def grid(start, rows, cols, depth):
 
 
 def matrices(gates, part, prefix_gates, prefix):
-    """The matrix and qubits of each gate; the first gates across the cut by the digits of `prefix`, where it is given."""
+    """The matrix and qubits of each gate; where `prefix` is given, the first gates across the cut by its digits."""
     crossing = [i for i, (_, qs) in enumerate(gates) if len({q in part for q in qs}) == 2]
     chosen = {}
     if prefix is not None:
@@ -214,7 +214,34 @@ def output(folder, name):
     return '\n'.join(head + lines_of(n, gates, strings, part, p, prefix, both)) + '\n'
 
 
+def check_table():
+    """The roots are roots, and the terms of each gate add up to its matrix."""
+    ring = Ring(2)
+
+    def number(e):
+        return 0 if e is None else ring.turned([1], e)[0]
+
+    def product(x, y):
+        two = range(2)
+        return [[sum(number(x[i][k]) * number(y[k][j]) for k in two) % ring.modulus for j in two] for i in two]
+
+    w = [number(e) for e in range(8)]
+    # twice X, Y and (X + Y) / sqrt(2), since each root is divided by sqrt(2)
+    squares = {'x_1_2': [[0, 2], [2, 0]], 'y_1_2': [[0, 2 * w[6]], [2 * w[2], 0]],
+               'hz_1_2': [[0, 2 * w[7]], [2 * w[1], 0]]}
+    for name, square in squares.items():
+        root = matrix(TABLE[name][0])
+        assert product(root, root) == [[z % ring.modulus for z in row] for row in square], name
+    for name, terms in TERMS.items():
+        whole = matrix(TABLE[name][0])
+        made = [together(matrix(one), matrix(two)) for one, two in terms]
+        for i in range(4):
+            for j in range(4):
+                assert (sum(number(m[i][j]) for m in made) - number(whole[i][j])) % ring.modulus == 0, name
+
+
 def main():
+    check_table()
     folder = os.path.dirname(os.path.abspath(__file__))
     names = sys.argv[1:] or sorted(name[:-4] for name in os.listdir(folder) if name.endswith('.out'))
     failed = False
