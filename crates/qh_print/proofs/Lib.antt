@@ -1,5 +1,5 @@
 -- Lemmas; those on values are cited above.
 mod LineLemmas
-mod Cuts
+mod TextLemmas
 mod Words
 pub mod ValueLemmas

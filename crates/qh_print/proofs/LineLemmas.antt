@@ -1,15 +1,13 @@
 -- Lines: their digits one by one, their words one by one, and which values they show.
-use Rattle.std.proofs.Common.{◌≡◌, ℕ, suc, ◌+◌, ◌-◌, ◌/◌, ◌%◌, ◌^◌, ◌<◌, List, [], ◌∷◌, ◌++◌, length, refl, sym, ap, subst, ◌∙◌, arith, decimal, append_assoc, Some}
+use Rattle.std.proofs.Common.{◌≡◌, ℕ, ◌^◌, ◌<◌, List, [], ◌∷◌, ◌++◌, length, refl, sym, ap, subst, ◌∙◌, arith, decimal, append_assoc, Some}
 use Rattle.std.specs.declared.option.Option.{Option}
-use Rattle.qh_print.proofs.Words.{bits_length}
+use Rattle.qh_text.proofs.BitLemmas.{bits_length}
 use Rattle.std.specs.Fmt.{signed_decimal}
 use Rattle.qh_ring.specs.declared.number.Omega.{Omega}
 use Rattle.qh_ring.specs.declared.canon.Canon.{Canon}
-use Rattle.qh_print.specs.Output.{bits_text, value_line, IsShowable}
+use Rattle.qh_text.specs.Bitstrings.{bits_text}
+use Rattle.qh_print.specs.Output.{value_line, IsShowable}
 use Rattle.qh_print.specs.Words.{numbers_text}
-
-pub bits_step : (n q x : ℕ) → q < n → bits_text (n - q) x ≡ (48 + x % 2) ∷ bits_text (n - (q + 1)) (x / 2)
-bits_step n q x l = let e : n - q ≡ suc (n - (q + 1)) = omega arith in rw e refl
 
 seven : (p q r s t u v : List ℕ) → p ++ q ++ r ++ s ++ t ++ u ++ v ≡ p ++ (q ++ (r ++ (s ++ (t ++ (u ++ v)))))
 seven p q r s t u v = simp append_assoc refl

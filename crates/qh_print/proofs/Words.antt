@@ -1,18 +1,18 @@
 -- The words of a line: what is spelled is read, and no word has a space or a line feed in it.
-use Rattle.std.proofs.Common.{◌≡◌, ◌≢◌, ℕ, zero, suc, ◌+◌, ◌/◌, ◌%◌, ◌^◌, ◌<◌, List, [], ◌∷◌, length, arith, sym, ap, subst, ◌∙◌, refl, decimal, Result, Ok, All, Some, None, ℤ, pos, negsuc, neg_ℤ, to_z, of_z}
+use Rattle.std.proofs.Common.{◌≡◌, ℕ, zero, suc, ◌^◌, ◌<◌, List, ◌∷◌, arith, sym, ap, subst, ◌∙◌, refl, decimal, Result, Ok, Some, None, ℤ, pos, negsuc, neg_ℤ, to_z, of_z}
 use Rattle.std.specs.declared.option.Option.{Option}
 use Rattle.std.specs.Fmt.{signed_decimal}
 use Rattle.std.specs.Int.{w128}
 use Rattle.std.proofs.lemmas.Int.{ints}
-use Rattle.std.proofs.lemmas.Fmt.{parse-decimal, IsAscii-decimal, IsAscii-decimal_wide, decimal_by_steps_wide, decimal_is_IsNumeral_wide}
+use Rattle.std.proofs.lemmas.Fmt.{parse-decimal, IsAscii-decimal, IsAscii-decimal_wide, decimal_is_IsNumeral_wide}
 use Rattle.std.proofs.lemmas.Result.{Ok-from_Ok_iff}
 use Rattle.std.proofs.lemmas.Str.{IsUtf8-from_ascii}
 use Rattle.std.proofs.lemmas.Str.Parse.{parse_signed_digits, parse_signed_minus, numerals_by_value, tells_digits}
-use Rattle.std.proofs.lemmas.List.Elements.{All-nil, All-push, All-cons}
 use Rattle.std.specs.Str.{IsUtf8, IsAscii}
 use Rattle.std.specs.Str.Parse.{ParsesUnsigned, ParsesSigned}
 use Rattle.qh_ring.specs.Numbers.{IsBelow}
-use Rattle.qh_print.specs.Output.{bits_text}
+use Rattle.qh_text.proofs.CutLemmas.{Without}
+use Rattle.qh_text.proofs.NumberLemmas.{signed_without}
 
 pub utf8_decimal : (n : ℕ) (bs : List ℕ) → n < 2 ^ 32 → bs ≡ decimal n → IsUtf8 bs
 utf8_decimal n bs l e = subst IsUtf8 (sym e) (IsUtf8-from_ascii (decimal n) (IsAscii-decimal n (omega arith)))
@@ -46,23 +46,9 @@ stored z h = omega (arith, ints)
 
 pub ruleset signed_decimals = (utf8_signed, parsed_signed)
 
--- no digit is a space or a line feed
-pub decimal_without : (s n : ℕ) → s < 45 → n < 10 ^ 64 → All (λ b. b ≢ s) (decimal n)
-decimal_without s n small = decimal_by_steps_wide (λ m ds. All (λ b. b ≢ s) ds)
-    (λ m l. All-push (λ b. b ≢ s) [] (48 + m) (All-nil (λ b. b ≢ s)) (λ e. omega arith))
-    (λ m ds l all. All-push (λ b. b ≢ s) ds (48 + m % 10) all (λ e. omega arith)) n
-
-pub signed_without : (s : ℕ) (z : ℤ) → s < 45 → IsBelow 126 z → All (λ b. b ≢ s) (signed_decimal z)
-signed_without s (pos n) small l = decimal_without s n small (omega arith)
-signed_without s (negsuc n) small l = All-cons (λ b. b ≢ s) 45 (decimal (suc n)) (λ e. omega arith) (decimal_without s (suc n) small (omega arith))
-
-pub bits_without : (s n x : ℕ) → s < 45 → All (λ b. b ≢ s) (bits_text n x)
-bits_without s zero x l = All-nil (λ b. b ≢ s)
-bits_without s (suc n) x l = All-cons (λ b. b ≢ s) (48 + x % 2) (bits_text n (x / 2)) (λ e. omega arith) (bits_without s n (x / 2) l)
-
-pub bits_length : (n x : ℕ) → length (bits_text n x) ≡ n
-bits_length zero x = refl
-bits_length (suc n) x = ap suc (bits_length n (x / 2))
+-- no character of a coefficient is a space or a line feed
+pub coefficient_without : (s : ℕ) (z : ℤ) → s < 45 → IsBelow 126 z → Without s (signed_decimal z)
+coefficient_without s z small l = signed_without s z small (omega arith)
 
 pub ok_same : {X E : Type 0} (a b : X) → ◌≡◌ {A = Result X E} (Ok a) (Ok b) → a ≡ b
 ok_same a b e = cc

@@ -5,8 +5,6 @@
 //! once. Reading takes no memory. Nothing here knows of circuits, and nothing rounds.
 #![tactic(auto)]
 
-mod cut;
-mod digits;
 mod laws;
 mod lines;
 mod print;
@@ -16,6 +14,6 @@ mod tests;
 mod word;
 
 pub use laws::one_text;
-pub use lines::Lines;
+pub use lines::{Lines, lines_of};
 pub use print::print_line;
 pub use read::read_line;

@@ -1,9 +1,10 @@
 //! Writes a line.
 ghost use Rattle.std.specs.Prelude.{◌≡◌, ◌≤◌, ◌<◌, ◌^◌, ◌++◌, OnOk, OnErr};
-ghost use Rattle.qh_print.specs.Output.{IsShowable, bits_text, value_line, word_of};
+ghost use Rattle.qh_limits.specs.Limits.{max_qubits};
+ghost use Rattle.qh_print.specs.Output.{IsShowable, value_line};
 
-use itoa::{Buffer, Integer};
 use qh_ring::Canon;
+use qh_text::{push_bits, push_word};
 use std::alloc::{AllocError, Global};
 
 /// The most bytes of a line: 40 digits, four numbers of 38 digits with their signs, a power of four digits, the
@@ -22,7 +23,7 @@ pub fn print_line(
     value: &Canon,
 ) -> Result<(), AllocError>
     requires some { 1 ≤ qubits }
-    requires few { qubits ≤ 40 }
+    requires few { qubits ≤ max_qubits }
     requires below { bits < 2 ^ qubits }
     requires showable { IsShowable value.now }
     ensures ok { OnOk result (out.new.items ≡ out.old.items ++ value_line qubits bits value.now) }
@@ -33,38 +34,17 @@ pub fn print_line(
     out.extend_from_slice(line.as_slice())
 }
 
-/// Appends a space and the number.
-fn push_number<I: Integer>(line: &mut Vec<u8>, number: I) -> Result<(), AllocError>
-    ensures { OnOk result (line.new.items ≡ line.old.items ++ word_of (I.text number)) }
-{
-    let mut buffer = Buffer::new();
-    line.push(b' ')?;
-    line.extend_from_slice(buffer.format(number).as_bytes())
-}
-
-/// Appends a digit for each qubit.
-fn push_bits(line: &mut Vec<u8>, qubits: u32, index: u64) -> Result<(), AllocError>
-    ensures { OnOk result (line.new.items ≡ line.old.items ++ bits_text qubits index) }
-{
-    let mut rest = index;
-    for q in 0..qubits {
-        line.push(b'0' + (rest % 2) as u8)?;
-        rest /= 2;
-    }
-    Ok(())
-}
-
 /// Appends the line of an amplitude.
 #[tactic(auto, unfolding(crate::specs::Output::value_line))]
 fn push_line(line: &mut Vec<u8>, qubits: u32, index: u64, value: &Canon) -> Result<(), AllocError>
     ensures { OnOk result (line.new.items ≡ line.old.items ++ value_line qubits index value.now) }
 {
     push_bits(line, qubits, index)?;
-    push_number(line, value.z.a)?;
-    push_number(line, value.z.b)?;
-    push_number(line, value.z.c)?;
-    push_number(line, value.z.d)?;
-    push_number(line, value.k)?;
+    push_word(line, value.z.a)?;
+    push_word(line, value.z.b)?;
+    push_word(line, value.z.c)?;
+    push_word(line, value.z.d)?;
+    push_word(line, value.k)?;
     line.push(b'\n')?;
     Ok(())
 }

@@ -1,15 +1,16 @@
 //! Reads a line.
 ghost use Rattle.std.specs.Prelude.{◌≡◌, ◌≤◌, ◌<◌, ◌↔◌, ℕ, Some, IfSome, IsTrue};
+ghost use Rattle.qh_limits.specs.Limits.{max_qubits};
 ghost use Rattle.qh_ring.specs.declared.canon.Canon.{Canon};
 ghost use Rattle.qh_print.specs.Output.{IsLine, IsShowable};
 
-use crate::cut::cut_at;
-use crate::digits::index_of;
 use crate::word::{read_omega, read_power};
+use qh_limits::{COEFFICIENT_BITS, MAX_GATES};
 use qh_ring::{Canon, reduce, within};
+use qh_text::{cut_at, index_of};
 
-/// The largest power of √2 below a value that is shown.
-const LARGEST_POWER: u32 = 4096;
+/// The largest power of √2 below a value that is shown: each gate of a circuit has at most one factor 1/√2.
+const LARGEST_POWER: u32 = MAX_GATES as u32;
 
 /// Whether a line can show the value: within 126 bits, k at most 4,096, and its own canonical form.
 fn is_showable(value: &Canon) -> bool
@@ -18,7 +19,7 @@ fn is_showable(value: &Canon) -> bool
     if value.k > LARGEST_POWER {
         return false;
     }
-    if !within(&value.z, 126) {
+    if !within(&value.z, COEFFICIENT_BITS) {
         return false;
     }
     reduce(&value.z, value.k).k == value.k
@@ -30,7 +31,7 @@ fn is_showable(value: &Canon) -> bool
 /// `-0`, no `+`, and a value in canonical form. It takes no memory, and time in proportion to the length.
 pub fn read_line(bytes: &[u8], qubits: u32) -> Option<(u64, Canon)>
     requires some { 1 ≤ qubits }
-    requires few { qubits ≤ 40 }
+    requires few { qubits ≤ max_qubits }
     ensures found { IfSome result (λ x. IsLine qubits x.0 x.1 bytes.now) }
     ensures only { (x : ℕ) (v : Canon) → IsLine qubits x v bytes.now → result ≡ Some (x, v) }
 {

@@ -1,8 +1,11 @@
-// What no clause can say: that the definitions mean what a person reads, and that a line is written with memory at hand.
-ghost use Rattle.std.specs.Prelude.{IfSome};
+//! What no clause can say: that the definitions mean what a person reads, and that a line is written with memory at hand.
+ghost use Rattle.std.specs.Prelude.{◌<◌, ◌≤◌, ◌^◌, All, IfSome, IsTrue};
+ghost use Rattle.qh_limits.specs.Limits.{coefficient_bits, max_qubits};
+ghost use Rattle.qh_ring.specs.Numbers.{IsWithin};
 ghost use Rattle.qh_print.specs.Output.{IsShowable};
 
-use crate::{Lines, print_line, read_line};
+use crate::{Lines, lines_of, print_line, read_line};
+use qh_limits::{COEFFICIENT_BITS, MAX_GATES, MAX_QUBITS};
 use qh_ring::{Canon, Omega, reduce, within};
 use std::process::Abort;
 use std::test::Fail;
@@ -14,10 +17,10 @@ const LARGEST: i128 = 85070591730234615865843651857942052863;
 fn canonical(z: &Omega, k: u32) -> Option<Canon>
     ensures { IfSome result (λ v. IsShowable v) }
 {
-    if k > 4096 {
+    if k as usize > MAX_GATES {
         return None;
     }
-    if !within(z, 126) {
+    if !within(z, COEFFICIENT_BITS) {
         return None;
     }
     Some(reduce(z, k))
@@ -36,7 +39,7 @@ fn expect(
     let Some(value) = canonical(&Omega { a, b, c, d }, k) else {
         panic!(rt; "{line}");
     };
-    assert!(rt; 1 <= qubits && qubits <= 40);
+    assert!(rt; 1 <= qubits && qubits <= MAX_QUBITS);
     assert!(rt; bits < 1u64 << qubits);
     let mut out = b"before ".to_vec(rt.alloc())?;
     print_line(rt.alloc(), &mut out, bits, qubits, &value)?;
@@ -114,4 +117,46 @@ fn other_texts_are_no_lines(rt: HostRuntime) {
     ] {
         assert_eq!(rt; read_line(text.as_bytes(), 1), None, "{text:?}");
     }
+}
+
+// Whether these are indices of this many qubits.
+fn are_below(indices: &[u64], qubits: u32) -> bool
+    requires { qubits ≤ max_qubits }
+    ensures { IsTrue result → All (λ x. x < 2 ^ qubits) indices.now }
+{
+    indices.iter().all(|x| *x < 1 << qubits)
+}
+
+// Whether a text can show these.
+fn are_within(values: &[Omega]) -> bool
+    ensures { IsTrue result → All (IsWithin coefficient_bits) values.now }
+{
+    values.iter().all(|z| within(z, COEFFICIENT_BITS))
+}
+
+#[test]
+fn texts_have_a_line_a_value(rt: HostRuntime) -> Result<(), Fail> {
+    let zero = Omega {
+        a: 0,
+        b: 0,
+        c: 0,
+        d: 0,
+    };
+    let one = Omega { a: 1, ..zero };
+    let two = Omega { a: 2, ..zero };
+    let root = Omega {
+        b: 1,
+        d: -1,
+        ..zero
+    };
+    for (qubits, weight, indices, values, text) in [
+        (1, 0, [0, 1], [one, zero], "0 1 0 0 0 0\n1 0 0 0 0 0\n"),
+        (2, 2, [2, 1], [two, one], "01 1 0 0 0 0\n10 1 0 0 0 2\n"),
+        (3, 1, [7, 7], [root, root], "111 1 0 0 0 0\n111 1 0 0 0 0\n"),
+    ] {
+        assert!(rt; are_below(&indices, qubits) && are_within(&values));
+        let lines = lines_of(rt.alloc(), qubits, weight, &indices, &values)?;
+        assert_eq!(rt; lines.as_bytes(), text.as_bytes());
+    }
+    Ok(())
 }

@@ -1,20 +1,21 @@
 //! Reads the numbers of a line.
 ghost use Rattle.std.specs.Prelude.{◌≡◌, ◌<◌, ◌^◌, ◌++◌, ◌∷◌, [], ℕ, ℤ, List, Some, IfSome, IsSomeAnd, decimal};
 ghost use Rattle.std.specs.Fmt.{signed_decimal};
+ghost use Rattle.qh_limits.specs.Limits.{coefficient_bits};
 ghost use Rattle.qh_ring.specs.declared.number.Omega.{Omega};
 ghost use Rattle.qh_ring.specs.Numbers.{IsBelow, IsWithin};
 ghost use Rattle.qh_print.specs.Words.{numbers_text};
 
-use crate::cut::cut_at;
 use itoa::Buffer;
 use qh_ring::Omega;
+use qh_text::cut_at;
 use std::str;
 
 /// The whole number that a word spells, without `+`, leading zeros or `-0`.
 #[tactic(auto, using(crate::proofs::Words::signed_decimals))]
 fn coefficient_of(word: &[u8]) -> Option<i128>
     ensures found { IfSome result (λ n. word.now ≡ signed_decimal n) }
-    ensures only { (n : ℤ) → IsBelow 126 n → word.now ≡ signed_decimal n → result ≡ Some n }
+    ensures only { (n : ℤ) → IsBelow coefficient_bits n → word.now ≡ signed_decimal n → result ≡ Some n }
 {
     let Ok(text) = str::from_utf8(word) else {
         return None;
@@ -53,7 +54,7 @@ fn power_of(word: &[u8]) -> Option<u32>
 /// A number and the space behind it, and what stands after these.
 fn read_coefficient(bytes: &[u8]) -> Option<(i128, &[u8])>
     ensures found { IfSome result (λ x. bytes.now ≡ signed_decimal x.0 ++ 32 ∷ x.1.now) }
-    ensures only { (n : ℤ) (rest : List ℕ) → IsBelow 126 n → bytes.now ≡ signed_decimal n ++ 32 ∷ rest
+    ensures only { (n : ℤ) (rest : List ℕ) → IsBelow coefficient_bits n → bytes.now ≡ signed_decimal n ++ 32 ∷ rest
         → IsSomeAnd result (λ x. (x.0 ≡ n) × (x.1.now ≡ rest)) }
 {
     let Some((word, rest)) = cut_at(bytes, b' ') else {
@@ -68,7 +69,7 @@ fn read_coefficient(bytes: &[u8]) -> Option<(i128, &[u8])>
 /// Four numbers, each with a space behind it, and what stands after these.
 pub(crate) fn read_omega(bytes: &[u8]) -> Option<(Omega, &[u8])>
     ensures found { IfSome result (λ x. bytes.now ≡ numbers_text x.0 x.1.now) }
-    ensures only { (z : Omega) (rest : List ℕ) → IsWithin 126 z → bytes.now ≡ numbers_text z rest
+    ensures only { (z : Omega) (rest : List ℕ) → IsWithin coefficient_bits z → bytes.now ≡ numbers_text z rest
         → IsSomeAnd result (λ x. (x.0 ≡ z) × (x.1.now ≡ rest)) }
 {
     let Some((a, rest)) = read_coefficient(bytes) else {

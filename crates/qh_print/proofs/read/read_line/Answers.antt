@@ -1,10 +1,12 @@
 use Rattle.std.proofs.Common.{◌≡◌, ◌++◌, ◌∷◌, [], ◌<◌, ◌^◌, sym, ap, subst, ◌∙◌, lit<, decimal, length}
 use Rattle.std.proofs.lemmas.Bool.{false≢true}
 use Rattle.qh_ring.specs.declared.canon.Canon.{Canon}
-use Rattle.qh_print.specs.Output.{IsShowable, bits_text}
+use Rattle.qh_text.specs.Bitstrings.{bits_text}
+use Rattle.qh_print.specs.Output.{IsShowable}
 use Rattle.qh_print.specs.Words.{numbers_text}
 use Rattle.qh_print.proofs.LineLemmas.{line_is, tail_of, cut_bits, same_pair, same_canon, power_small}
-use Rattle.qh_print.proofs.Words.{bits_without, bits_length, none_some, some_same}
+use Rattle.qh_text.proofs.BitLemmas.{bits_without, bits_length}
+use Rattle.qh_print.proofs.Words.{none_some, some_same}
 use Rattle.qh_print.proofs.read.read_line.Goals as goal
 
 pub returns-in_default-clause-only : goal.returns-in_default-clause-only

@@ -3,15 +3,15 @@ use Rattle.std.specs.Fmt.{signed_decimal}
 use Rattle.std.specs.Int.{w128}
 use Rattle.std.specs.Prelude.{FitsSigned}
 use Rattle.std.proofs.lemmas.Int.{to_z-of_z}
-use Rattle.qh_print.proofs.Words.{signed_without, none_some, some_same, stored}
+use Rattle.qh_print.proofs.Words.{coefficient_without, none_some, some_same, stored}
 use Rattle.qh_print.proofs.word.read_coefficient.Goals as goal
 
 pub returns-in_default-clause-only : goal.returns-in_default-clause-only
-returns-in_default-clause-only c = λ n rest l e. absurd (c.in_default.ensures.only (signed_decimal n) rest (signed_without 32 n (lit< tt) l) e)
+returns-in_default-clause-only c = λ n rest l e. absurd (c.in_default.ensures.only (signed_decimal n) rest (coefficient_without 32 n (lit< tt) l) e)
 
 pub returns-in_default-coefficient_of-clause-only : goal.returns-in_default-coefficient_of-clause-only
 returns-in_default-coefficient_of-clause-only c = λ n rest l e.
-    let cut = c.in-Some.ensures.only (signed_decimal n) rest (signed_without 32 n (lit< tt) l) e in
+    let cut = c.in-Some.ensures.only (signed_decimal n) rest (coefficient_without 32 n (lit< tt) l) e in
     absurd (none_some n (c.in_default-coefficient_of.ensures.only n l cut.0))
 
 pub returns-clause-found : goal.returns-clause-found
@@ -22,6 +22,6 @@ returns-clause-found c =
 
 pub returns-clause-only : goal.returns-clause-only
 returns-clause-only c = λ n rest l e.
-    let cut = c.in-Some.ensures.only (signed_decimal n) rest (signed_without 32 n (lit< tt) l) e in
+    let cut = c.in-Some.ensures.only (signed_decimal n) rest (coefficient_without 32 n (lit< tt) l) e in
     let same = some_same c.in-Some-coefficient_of.number n (c.in-Some-coefficient_of.ensures.only n l cut.0) in
     (ap (λ m. to_z w128 (of_z w128 m)) same ∙ stored n l, cut.1)

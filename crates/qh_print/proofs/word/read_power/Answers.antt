@@ -1,6 +1,6 @@
 use Rattle.std.proofs.Common.{[], sym, ap, ◌∙◌, lit<, arith, decimal, length}
 use Rattle.std.proofs.lemmas.Bool.{eqb-false}
-use Rattle.qh_print.proofs.Words.{decimal_without}
+use Rattle.qh_text.proofs.NumberLemmas.{decimal_without}
 use Rattle.qh_print.proofs.word.read_power.Goals as goal
 
 pub returns-in_default-clause-only : goal.returns-in_default-clause-only
