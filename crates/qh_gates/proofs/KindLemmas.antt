@@ -1,5 +1,5 @@
 -- What holds of every kind. None of these lemmas has a line for each kind, so a kind that is added changes nothing here.
-use Rattle.std.proofs.Common.{◌≡◌, ◌==◌, ◌||◌, ◌⊎◌, ℕ, inl, inr, Bool, true, List, [], ◌∷◌, length, refl, sym, subst, ◌∙◌, Some, None}
+use Rattle.std.proofs.Common.{◌≡◌, ◌==◌, ◌||◌, ◌⊎◌, ℕ, inl, inr, Bool, true, List, [], ◌∷◌, length, refl, sym, subst, ◌∙◌, Some}
 use Rattle.std.specs.declared.option.Option.{Option}
 use Rattle.std.specs.List.{find, list_all}
 use Rattle.std.specs.Str.{bytes_eq}

@@ -1,4 +1,6 @@
-//! The table of the gates. Adding a gate adds a variant, a row here and in `specs/Tables.antt`, and its name in `kind_of`.
+//! The table of the gates. Adding a gate adds a variant, a row and its name in `kind_of` here, a row in `specs/Tables.antt`,
+//! its place in `kinds` of `specs/Names.antt`, and a line in `NameLemmas` and `TermLemmas` of `proofs/`. A gate on two
+//! qubits also adds its terms in `term.rt` and `specs/Terms.antt`. No other crate changes.
 ghost use Rattle.std.specs.Prelude.{◌≡◌, ◌≢◌, ◌≤◌, IfSome, IfNone, IsTrue};
 ghost use Rattle.qh_ring.specs.Units.{are_units};
 ghost use Rattle.qh_gates.specs.Tables.{name_text, weight_of, matrix_of, qubits_of};
@@ -17,11 +19,11 @@ pub enum Kind {
     X,
     Y,
     Z,
-    /// The square root of X, by the factor ω.
+    /// The square root of X whose eigenvalues are 1 and i.
     X12,
-    /// The square root of Y, by the factor ω.
+    /// The square root of Y whose eigenvalues are 1 and i.
     Y12,
-    /// The square root of (X+Y)/√2, by the factor ω.
+    /// The square root of (X+Y)/√2 whose eigenvalues are 1 and i.
     Hz12,
     /// Controlled Z.
     Cz,
