@@ -2,7 +2,8 @@
 use Rattle.std.proofs.Common.{◌≡◌, ◌≢◌, ℕ, List, [], ◌∷◌, ◌++◌, length, Some, None, Ok, Err, Result, refl, ap, length-append, append_assoc, append-nil}
 use Rattle.qh_lines.specs.Lines.{content_of}
 use Rattle.qh_lines.specs.Words.{trimmed}
-use Rattle.qh_bits.specs.Strings.{index_of, fault_of}
+use Rattle.qh_text.specs.Bitstrings.{index_of}
+use Rattle.qh_bits.specs.Strings.{fault_of}
 use Rattle.qh_bits.specs.Texts.{faults_in, indices_in, answer, bits_of}
 use Rattle.qh_bits.specs.declared.faults.BitsWhy.{BitsWhy}
 use Rattle.qh_bits.specs.declared.faults.BitsWhy.TheVariants.{NoStrings}

@@ -4,7 +4,8 @@ use Rattle.std.specs.List.{filter_map, enumerate_from}
 use Rattle.std.specs.Option.{option_map}
 use Rattle.qh_lines.specs.Lines.{content_of}
 use Rattle.qh_lines.specs.Words.{trimmed}
-use Rattle.qh_bits.specs.Strings.{index_of, fault_of}
+use Rattle.qh_text.specs.Bitstrings.{index_of}
+use Rattle.qh_bits.specs.Strings.{fault_of}
 use Rattle.qh_bits.specs.declared.faults.BitsWhy.TheVariants.{NoStrings}
 use Rattle.qh_bits.specs.declared.faults.BitsFault.{BitsFault}
 use Rattle.qh_bits.specs.declared.faults.BitsFault.TheVariants.{Line}
@@ -16,6 +17,14 @@ fault_in qubits placed = option_map (Line placed.1.0) (fault_of qubits placed.0 
 -- the faults of these lines, each of which is a string, in order
 abbrev pub faults_in : ℕ → ℕ → List (ℕ × List ℕ) → List BitsFault
 faults_in qubits before lines = filter_map (fault_in qubits) (enumerate_from before lines)
+
+-- the strings of these lines, in order
+abbrev pub strings_in : List (ℕ × List ℕ) → List (List ℕ)
+strings_in lines = map (λ line. trimmed line.1) lines
+
+-- the strings of a text, one for each line that is not passed over
+abbrev pub strings_of : List ℕ → List (List ℕ)
+strings_of text = strings_in (content_of text)
 
 -- the basis indices of these lines, in order
 abbrev pub indices_in : List (ℕ × List ℕ) → List ℕ

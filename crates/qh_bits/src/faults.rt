@@ -1,4 +1,4 @@
-// Why a text of bitstrings is refused.
+//! Why a text of bitstrings is refused.
 use thiserror::Error;
 
 /// What is wrong with a line, in the order in which it is looked for.

@@ -1,57 +1,42 @@
-// One bitstring.
-ghost use Rattle.std.specs.Prelude.{◌≡◌, ◌≤◌, ◌<◌, ◌-◌, ◌^◌, ℕ, Some, None, IfOk, IfErr, length, slice_index, true};
-ghost use Rattle.std.specs.List.{list_all};
-ghost use Rattle.std.specs.Int.{bit_at};
-ghost use Rattle.qh_bits.specs.Strings.{is_bit, index_of, fault_of};
+//! One bitstring.
+ghost use Rattle.std.specs.Prelude.{◌≡◌, ◌≤◌, ◌<◌, ◌^◌, Some, None, IfOk, IfErr, if◌then◌else◌};
+ghost use Rattle.qh_limits.specs.Limits.{max_bitstrings, max_qubits};
+ghost use Rattle.qh_text.specs.Bitstrings.{index_of, is_bitstring};
+ghost use Rattle.qh_bits.specs.Strings.{fault_of};
 
 use crate::faults::BitsWhy;
+use qh_limits::MAX_BITSTRINGS;
+use qh_text::{index_of, is_bitstring};
 
-// The most strings of a text.
-const MOST_STRINGS: usize = 4096;
-
-fn is_bit(character: u8) -> bool
-    ensures { result ≡ is_bit character }
+/// The fault of a string that has not a character for each qubit.
+fn length_fault(string: &[u8]) -> BitsWhy
+    ensures { result ≡ (if is_bitstring string.now then BitsWhy.Length else BitsWhy.Letter) }
 {
-    character == b'0' || character == b'1'
-}
-
-fn are_bits(string: &[u8]) -> bool
-    ensures { result ≡ list_all is_bit string.now }
-{
-    string.iter().all(|character| is_bit(*character))
-}
-
-// The index that the string names. At most 40 calls deep.
-fn index_of(string: &[u8]) -> u64
-    requires bits { list_all is_bit string.now ≡ true }
-    requires few { length string.now ≤ 40 }
-    ensures value { result ≡ index_of string.now }
-    ensures below { result < 2 ^ length string.now }
-{
-    match string {
-        [] => 0,
-        [bit, rest @ ..] => (*bit - b'0') as u64 + 2 * index_of(rest),
+    if is_bitstring(string) {
+        BitsWhy::Length
+    } else {
+        BitsWhy::Letter
     }
 }
 
-// The basis index of a string that so many strings stand before, or its first fault. Bit q of the index is character q.
+/// The basis index of a string that so many strings stand before, or its first fault. Bit q of the index is character q.
+#[tactic(auto, using(crate::proofs::StringLemmas::faults))]
 pub(crate) fn read_string(string: &[u8], qubits: u32, before: usize) -> Result<u64, BitsWhy>
-    requires { qubits ≤ 40 }
-    ensures few { IfOk result (λ _. before < 4096) }
+    requires { qubits ≤ max_qubits }
+    ensures few { IfOk result (λ _. before < max_bitstrings) }
     ensures sound { IfOk result (λ _. fault_of qubits before string.now ≡ None) }
     ensures index { IfOk result (λ index. index ≡ index_of string.now) }
     ensures below { IfOk result (λ index. index < 2 ^ qubits) }
-    ensures bits { IfOk result (λ index. (q : ℕ) → q < qubits → bit_at index q ≡ slice_index string.now q - 48) }
     ensures fault { IfErr result (λ why. fault_of qubits before string.now ≡ Some why) }
 {
-    if before >= MOST_STRINGS {
+    if before >= MAX_BITSTRINGS {
         return Err(BitsWhy::TooMany);
     }
-    if !are_bits(string) {
-        return Err(BitsWhy::Letter);
-    }
     if string.len() != qubits as usize {
-        return Err(BitsWhy::Length);
+        return Err(length_fault(string));
     }
-    Ok(index_of(string))
+    let Some(index) = index_of(string) else {
+        return Err(BitsWhy::Letter);
+    };
+    Ok(index)
 }

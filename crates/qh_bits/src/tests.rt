@@ -1,4 +1,4 @@
-// What no clause can say: that the definitions mean what a person reads, and that a text is read with memory at hand.
+//! What no clause can say: that the definitions mean what a person reads, and that a text is read with memory at hand.
 use crate::{BitsFault, BitsWhy, read_bits};
 use std::alloc::{AllocError, Global};
 use std::process::Abort;

@@ -5,5 +5,7 @@
 #![tactic(auto)]
 
 mod read;
+#[cfg(test)]
+mod tests;
 
 pub use read::{number_of, wide_number_of};

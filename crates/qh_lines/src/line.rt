@@ -1,7 +1,7 @@
 //! The lines of a text.
 
-ghost use Rattle.std.specs.Prelude.{◌≡◌, ◌<◌, ◌≤◌, ◌∷◌, [], length, MatchOption};
-ghost use Rattle.std.specs.List.{position_or_len};
+ghost use Rattle.std.specs.Prelude.{◌≡◌, ◌<◌, ◌≤◌, ◌∷◌, [], length, IfSome, MatchOption};
+ghost use Rattle.std.specs.List.{after_first, before_first, position_or_len};
 ghost use Rattle.std.specs.Str.Lines.{strip_carriage_return};
 ghost use Rattle.qh_lines.specs.Lines.{is_line_feed, lines_of};
 ghost use Rattle.qh_lines.specs.Words.{is_passed_over};
@@ -26,9 +26,11 @@ fn without_return(line: &[u8]) -> &[u8]
     }
 }
 
-/// The first line of a text and the text behind it. None exactly where the text is empty.
+/// The first line of a text, without its end, and the text behind it. None exactly where the text is empty.
 pub fn next_line(text: &[u8]) -> Option<(&[u8], &[u8])>
     ensures lines { MatchOption result (lines_of text.now ≡ []) (λ x. lines_of text.now ≡ x.0.now ∷ lines_of x.1.now) }
+    ensures line { IfSome result (λ x. x.0.now ≡ strip_carriage_return (before_first is_line_feed text.now)) }
+    ensures behind { IfSome result (λ x. x.1.now ≡ after_first is_line_feed text.now) }
     ensures shorter { MatchOption result (text.now ≡ []) (λ x. length x.1.now < length text.now) }
 {
     if text.is_empty() {

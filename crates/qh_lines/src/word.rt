@@ -1,6 +1,6 @@
 //! The words of a line.
 
-ghost use Rattle.std.specs.Prelude.{◌≡◌, ◌<◌, ◌≤◌, ◌∷◌, ◌-◌, [], length, IfSome, MatchOption};
+ghost use Rattle.std.specs.Prelude.{◌≡◌, ◌<◌, ◌≤◌, ◌∷◌, ◌++◌, ◌-◌, [], length, IfSome, MatchOption};
 ghost use Rattle.std.specs.List.{position_or_len, prefix_len, suffix_len};
 ghost use Rattle.qh_lines.specs.Words.{is_space, trimmed, without_spaces_before, words_of};
 
@@ -34,9 +34,11 @@ fn without_spaces_before(line: &[u8]) -> &[u8]
     line.split_at(leading_spaces(line)).1
 }
 
-/// The first word of a line and what stands behind it. None exactly where the line has no word.
+/// The first word of a line and what stands behind it, from the space or tab there on. None exactly where the line has
+/// no word.
 pub fn next_word(line: &[u8]) -> Option<(&[u8], &[u8])>
     ensures words { MatchOption result (words_of line.now ≡ []) (λ x. words_of line.now ≡ x.0.now ∷ words_of x.1.now) }
+    ensures behind { IfSome result (λ x. x.0.now ++ x.1.now ≡ without_spaces_before line.now) }
     ensures not_empty { IfSome result (λ x. 0 < length x.0.now) }
 {
     let rest = without_spaces_before(line);

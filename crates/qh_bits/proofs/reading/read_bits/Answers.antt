@@ -2,6 +2,7 @@ use Rattle.std.proofs.Common.{vec_len, ◌≡◌, ◌^◌, ◌<◌, ◌∷◌, [
 use Rattle.std.proofs.lemmas.List.{nil_from_length}
 use Rattle.std.proofs.lemmas.List.Elements.{All-push}
 use Rattle.std.proofs.lemmas.Bool.{eqb-true, eqb-false}
+use Rattle.qh_bits.proofs.SpellingLemmas.{spelled}
 use Rattle.qh_bits.proofs.ReadOn.{read_on_start, read_on_fault, read_on_more, read_on_none, read_on_end}
 use Rattle.qh_bits.proofs.reading.read_bits.Goals as goal
 
@@ -41,3 +42,6 @@ returns-then-is_empty-clause-fault c =
 pub returns-clause-indices : goal.returns-clause-indices
 returns-clause-indices c =
     c.loop-line.invariant.same ∙ read_on_end _ _ _ c.in-None.ensures.steps.0 (λ e. eqb-false (vec_len c.loop-line.indices) 0 (sym c.is_empty.ensures ∙ c.if-is_empty.false) (omega (arith, ap (length {A = ℕ}) e)))
+
+pub returns-clause-strings : goal.returns-clause-strings
+returns-clause-strings c = spelled c.args.qubits c.args.bytes.now c.loop-line.indices.items (returns-clause-indices c)
