@@ -1,15 +1,14 @@
 -- The qubits of part 1, and the gates that cross.
-use Rattle.std.proofs.Common.{◌≡◌, ◌==◌, ℕ, zero, suc, ◌+◌, ◌<◌, ◌≤◌, ◌⊎◌, inl, inr, Bool, true, false, if◌then◌else◌, List, [], ◌∷◌, ◌++◌, length, get_or, take, drop, arith, refl, sym, ap, ◌∙◌, All, Some, nat_le, length-append}
+use Rattle.std.proofs.Common.{◌≡◌, ◌==◌, ℕ, zero, suc, ◌+◌, ◌<◌, ◌≤◌, inl, inr, Bool, true, false, if◌then◌else◌, List, [], ◌∷◌, ◌++◌, length, get_or, take, drop, arith, refl, sym, ap, ◌∙◌, All, Some, nat_le, length-append}
 use Rattle.std.specs.List.{list_any}
 use Rattle.std.specs.List.Sorted.{IsStrictlyIncreasing}
 use Rattle.std.proofs.lemmas.List.{drop_more, take_more, get_or_at, get_or_append_left}
 use Rattle.std.proofs.lemmas.List.Elements.{All-nil, All-cons, All-head, All-tail, All-push, All-weaker}
 use Rattle.std.proofs.lemmas.Bool.{cases_Bool, cases_lt}
 use Rattle.qh_gates.specs.declared.gate.Gate.{Gate}
-use Rattle.qh_gates.specs.declared.kind.Kind.{Kind}
-use Rattle.qh_gates.specs.declared.kind.Kind.TheVariants.{H, T, X, Y, Z, X12, Y12, Hz12, Cz, Cnot, Is, S, Sw, Id1, Id2}
 use Rattle.qh_gates.specs.Tables.{qubits_of}
 use Rattle.qh_gates.specs.Terms.{terms_of}
+use Rattle.qh_gates.proofs.KindLemmas.{one_or_two, radix_of}
 use Rattle.qh_plan.specs.Paths.{differ, crosses, radices}
 use Rattle.qh_plan.specs.declared.fault.PlanFault.TheVariants.{NoSuchQubit, QubitTwice}
 use Rattle.qh_plan.specs.Plans.{item_fault, rising, IsRadix}
@@ -29,23 +28,6 @@ differ_self : (b : Bool) → differ b b ≡ false
 differ_self true = refl
 differ_self false = refl
 
-pub one_or_two : (kind : Kind) → (qubits_of kind ≡ 1) ⊎ (qubits_of kind ≡ 2)
-one_or_two H = inl refl
-one_or_two T = inl refl
-one_or_two X = inl refl
-one_or_two Y = inl refl
-one_or_two Z = inl refl
-one_or_two X12 = inl refl
-one_or_two Y12 = inl refl
-one_or_two Hz12 = inl refl
-one_or_two Cz = inr refl
-one_or_two Cnot = inr refl
-one_or_two Is = inr refl
-one_or_two S = inl refl
-one_or_two Sw = inr refl
-one_or_two Id1 = inl refl
-one_or_two Id2 = inr refl
-
 -- a gate that crosses acts on two qubits
 pub crossing_two : (one : ℕ → Bool) (g : Gate) → (qubits_of g.kind ≡ 1 → g.q1 ≡ g.q0) → crosses one g ≡ true → qubits_of g.kind ≡ 2
 crossing_two one g h e = elim (one_or_two g.kind) [
@@ -55,24 +37,6 @@ crossing_two one g h e = elim (one_or_two g.kind) [
   where
     never : false ≡ true → ⊥
     never x = (cc)
-
--- a kind on two qubits has one, two or four terms
-radix_of : (kind : Kind) → qubits_of kind ≡ 2 → IsRadix (length (terms_of kind))
-radix_of Cz e = inr (inl refl)
-radix_of Cnot e = inr (inl refl)
-radix_of Is e = inr (inr refl)
-radix_of Sw e = inr (inr refl)
-radix_of Id2 e = inl refl
-radix_of H e = absurd (omega arith)
-radix_of T e = absurd (omega arith)
-radix_of X e = absurd (omega arith)
-radix_of Y e = absurd (omega arith)
-radix_of Z e = absurd (omega arith)
-radix_of X12 e = absurd (omega arith)
-radix_of Y12 e = absurd (omega arith)
-radix_of Hz12 e = absurd (omega arith)
-radix_of S e = absurd (omega arith)
-radix_of Id1 e = absurd (omega arith)
 
 pub radices_known : (one : ℕ → Bool) (gs : List Gate) → All (λ (g : Gate). qubits_of g.kind ≡ 1 → g.q1 ≡ g.q0) gs → All IsRadix (radices one gs)
 radices_known one [] h = All-nil IsRadix

@@ -8,6 +8,4 @@ pub mod TextLemmas
 pub mod ItemLemmas
 pub mod Examples
 pub mod SameLemmas
-pub mod CutTextLemmas
-pub mod ReadLemmas
-pub mod AcceptLemmas
+pub mod OneTextLemmas

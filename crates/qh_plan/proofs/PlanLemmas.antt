@@ -11,13 +11,13 @@ use Rattle.qh_gates.specs.Circuits.{Circuit, IsCircuit, Fits}
 use Rattle.qh_plan.specs.declared.fault.PlanFault.{PlanFault}
 use Rattle.qh_plan.specs.declared.fault.PlanFault.TheVariants.{EmptyPart, PartTooWide, TooManyCrossing, TooManyPaths, PrefixRoot, PrefixValue, TooManyRanges, JournalTooLong}
 use Rattle.qh_plan.specs.Paths.{path_count}
-use Rattle.qh_plan.specs.Jobs.{Job, job_radices, prefixes, ranges}
+use Rattle.qh_plan.specs.Jobs.{Job, IsJob, in_one, job_radices, prefixes, ranges}
 use Rattle.qh_plan.specs.Texts.{job_text, journal_length}
 use Rattle.qh_plan.specs.Plans.{IsRadix, IsDraft, IsKept, Kept, range_count, width_fault, path_fault, path_bits, split_fault, is_past, size_fault, item_fault, first_fault, rising, job_of, AreBits}
 use Rattle.qh_plan.proofs.DigitLemmas.{count_positive, front_le, back_le}
 use Rattle.qh_plan.proofs.PathLemmas.{path_count_split}
-use Rattle.qh_plan.proofs.CutLemmas.{rising_length, rising_below, rising_increasing}
-use Rattle.qh_plan.proofs.RunLemmas.{ranges_are}
+use Rattle.qh_plan.proofs.CutLemmas.{radices_known, rising_length, rising_below, rising_increasing}
+use Rattle.qh_plan.proofs.RunLemmas.{IsCounted, counted_by, ranges_are}
 
 -- ---- slices of the numbers of terms
 
@@ -228,6 +228,10 @@ module _ (c : Circuit) (items : List ℕ) (p r : ℕ) (w : Option ℕ) (bits : L
 -- no gate on one qubit crosses
 pub singles : (n : ℕ) (gs : List Gate) → All (Fits n) gs → All (λ (g : Gate). qubits_of g.kind ≡ 1 → g.q1 ≡ g.q0) gs
 singles n gs h = All-weaker (Fits n) (λ g. qubits_of g.kind ≡ 1 → g.q1 ≡ g.q0) (λ g f. f.one) gs h
+
+-- what a job's numbers of terms make of its counts
+pub counted_job : (j : Job) → IsJob j → IsCounted j
+counted_job j h = counted_by j (radices_known (in_one j) j.circuit.gates (singles j.circuit.qubits j.circuit.gates h.valid.fit)) h.few_paths
 
 pub draft : (c : Circuit) (items : List ℕ) (p r : ℕ) (w : Option ℕ) (bits rs : List ℕ) → IsCircuit c → AreBits c.qubits bits
     → rs ≡ job_radices (job_of c items p r w bits) → All IsRadix rs

@@ -67,6 +67,13 @@ run_fits_at j (Some w) h = row_fits w (roots j) (prefixes j) (roots j) (h w refl
 pub run_fits : (j : Job) → IsJob j → earlier j j.prefix + ranges j ≤ prefixes j * roots j
 run_fits j h = run_fits_at j j.prefix h.has_prefix
 
+-- the ranges of a run hold at most the paths of the circuit
+pub few_in_run : (j : Job) → IsJob j → IsCounted j → ranges j * per_range j ≤ 2 ^ 32
+few_in_run j h k =
+    let f = run_fits j h in
+    let m = mul-le (ranges j) (per_range j) (prefixes j * roots j) (per_range j) (omega arith) (omega arith) in
+    omega (arith, k.product, k.few)
+
 -- the paths of a range are paths of the circuit
 pub range_within : (j : Job) (i : ℕ) → IsJob j → IsCounted j → i < ranges j → first_path j i + per_range j ≤ paths j
 range_within j i h k l =

@@ -1,11 +1,8 @@
 -- Texts, one piece more at a time.
-use Rattle.std.proofs.Common.{◌≡◌, ℕ, suc, ◌+◌, ◌-◌, ◌/◌, ◌%◌, ◌<◌, List, [], ◌∷◌, ◌++◌, codes, arith, refl, sym, ap, ◌∙◌, append_assoc, append-nil}
+use Rattle.std.proofs.Common.{◌≡◌, ℕ, List, [], ◌∷◌, ◌++◌, codes, refl, sym, ap, ◌∙◌, append_assoc, append-nil}
 use Rattle.std.specs.List.{flat_map}
 use Rattle.qh_plan.specs.Jobs.{Job}
-use Rattle.qh_plan.specs.Texts.{bits_text, word, prefix_text, asked_text, job_text}
-
-pub bits_step : (n q x : ℕ) → q < n → bits_text (n - q) x ≡ (48 + x % 2) ∷ bits_text (n - (q + 1)) (x / 2)
-bits_step n q x l = let e : n - q ≡ suc (n - (q + 1)) = omega arith in rw e refl
+use Rattle.qh_plan.specs.Texts.{word, prefix_text, asked_text, job_text}
 
 pub job_is : (j : Job) → job_text j ≡ codes "job 1" ++ 10 ∷ ((codes "part" ++ flat_map word j.part) ++ 10 ∷ ((codes "split" ++ (word j.p ++ (word j.r ++ [])))
     ++ 10 ∷ (prefix_text j.prefix ++ 10 ∷ asked_text j.circuit j.bits)))

@@ -3,6 +3,7 @@ use Rattle.std.specs.Prelude.{ℕ, ◌==◌, ◌+◌, ◌*◌, ◌^◌, ◌<◌,
 use Rattle.std.specs.Option.{ForSome}
 use Rattle.std.specs.List.{list_any}
 use Rattle.std.specs.List.Sorted.{IsStrictlyIncreasing}
+use Rattle.qh_limits.specs.Limits.{max_part_qubits, max_crossing, max_path_bits, max_ranges, max_bitstrings}
 use Rattle.qh_gates.specs.Circuits.{Circuit, IsCircuit}
 use Rattle.qh_plan.specs.Paths.{radices, path_count, path_digits}
 
@@ -71,13 +72,13 @@ pub record IsJob (j : Job) : Type 0 where
   pub in_circuit : All (λ q. q < j.circuit.qubits) j.part
   pub some_in_one : 1 ≤ length j.part
   pub some_in_two : length j.part < j.circuit.qubits
-  pub narrow_one : length j.part ≤ 20
-  pub narrow_two : j.circuit.qubits ≤ length j.part + 20
-  pub few_crossing : crossing j ≤ 32
-  pub few_paths : paths j ≤ 2 ^ 32
+  pub narrow_one : length j.part ≤ max_part_qubits
+  pub narrow_two : j.circuit.qubits ≤ length j.part + max_part_qubits
+  pub few_crossing : crossing j ≤ max_crossing
+  pub few_paths : paths j ≤ 2 ^ max_path_bits
   pub is_split : j.p + j.r ≤ crossing j
   pub has_prefix : ForSome j.prefix (λ w. w < prefixes j)
-  pub few_ranges : ranges j ≤ 16384
+  pub few_ranges : ranges j ≤ max_ranges
   pub some_bits : 1 ≤ length j.bits
-  pub few_bits : length j.bits ≤ 4096
+  pub few_bits : length j.bits ≤ max_bitstrings
   pub bits_below : All (λ b. b < 2 ^ j.circuit.qubits) j.bits

@@ -1,4 +1,4 @@
--- The definitions that contracts cite: parts, path numbers, jobs, and the total of verdicts.
+-- The definitions that contracts cite: parts, path numbers, jobs, plans, texts, and the total of verdicts.
 pub mod Parts
 pub mod Paths
 pub mod Jobs
@@ -7,4 +7,3 @@ pub mod Texts
 pub mod Plans
 pub mod Ranges
 pub mod Items
-pub mod Readings

@@ -3,6 +3,7 @@ use Rattle.std.specs.Prelude.{◌≡◌, ◌⊎◌, ℕ, zero, suc, ◌==◌, �
 use Rattle.std.specs.Option.{ForSome}
 use Rattle.std.specs.List.{list_any}
 use Rattle.std.specs.List.Sorted.{IsStrictlyIncreasing}
+use Rattle.qh_limits.specs.Limits.{max_part_qubits, max_crossing, max_path_bits, max_ranges, max_bitstrings, max_journal_bytes}
 use Rattle.qh_gates.specs.Circuits.{Circuit, IsCircuit}
 use Rattle.qh_plan.specs.declared.fault.PlanFault.{PlanFault}
 use Rattle.qh_plan.specs.declared.fault.PlanFault.TheVariants.{NoSuchQubit, QubitTwice, EmptyPart, PartTooWide, TooManyCrossing, TooManyPaths, PrefixRoot, PrefixValue, TooManyRanges, JournalTooLong}
@@ -30,13 +31,13 @@ item_fault n earlier (q ∷ items) =
     else (if list_any (λ k. k == q) earlier then Some (QubitTwice q)
     else item_fault n (earlier ++ q ∷ []) items)
 
--- a part without qubits or with more than 20, of a circuit with n qubits of which m lie in part 1
+-- a part without qubits or with too many, of a circuit with n qubits of which m lie in part 1
 abbrev pub width_fault : ℕ → ℕ → Option PlanFault
 width_fault n m =
     if m == 0 then Some EmptyPart
     else (if m == n then Some EmptyPart
-    else (if nat_lt 20 m then Some (PartTooWide m)
-    else (if nat_lt 20 (n - m) then Some (PartTooWide (n - m))
+    else (if nat_lt max_part_qubits m then Some (PartTooWide m)
+    else (if nat_lt max_part_qubits (n - m) then Some (PartTooWide (n - m))
     else None)))
 
 -- a crossing gate has one, two or four terms
@@ -51,11 +52,11 @@ term_bits r = if r == 4 then 2 else (if r == 2 then 1 else 0)
 abbrev pub path_bits : List ℕ → ℕ
 path_bits radices = sum_by term_bits radices
 
--- more than 32 crossing gates, or more than 2^32 paths
+-- too many crossing gates, or too many paths
 abbrev pub path_fault : List ℕ → Option PlanFault
 path_fault radices =
-    if nat_lt 32 (length radices) then Some (TooManyCrossing (length radices))
-    else (if nat_lt (2 ^ 32) (path_count radices) then Some (TooManyPaths (path_bits radices))
+    if nat_lt max_crossing (length radices) then Some (TooManyCrossing (length radices))
+    else (if nat_lt (2 ^ max_path_bits) (path_count radices) then Some (TooManyPaths (path_bits radices))
     else None)
 
 -- whether the prefix value is not below n
@@ -70,11 +71,11 @@ split_fault radices p r prefix =
     else (if is_past (path_count (take p radices)) prefix then Some (PrefixValue (path_count (take p radices)))
     else None)
 
--- more than 16,384 ranges, or a journal of more than 2^30 bytes
+-- too many ranges, or a journal of too many bytes
 abbrev pub size_fault : ℕ → ℕ → Option PlanFault
 size_fault ranges bytes =
-    if nat_lt 16384 ranges then Some (TooManyRanges ranges)
-    else (if nat_lt 1073741824 bytes then Some (JournalTooLong bytes)
+    if nat_lt max_ranges ranges then Some (TooManyRanges ranges)
+    else (if nat_lt max_journal_bytes bytes then Some (JournalTooLong bytes)
     else None)
 
 -- the first fault, or that of the rest
@@ -97,15 +98,15 @@ abbrev pub range_count : ℕ → ℕ → Option ℕ → ℕ
 range_count prefixes roots None = prefixes * roots
 range_count prefixes roots (Some w) = roots
 
--- ---- what a job keeps: it is valid, and its journal has at most 2^30 bytes
+-- ---- what a job keeps: it is valid, and its journal is not too long
 pub record IsPlanned (j : Job) : Type 0 where
   pub valid : IsJob j
-  pub short : journal_length j ≤ 1073741824
+  pub short : journal_length j ≤ max_journal_bytes
 
--- the bitstrings that may be asked: 1 to 4,096, each below 2^n
+-- the bitstrings that may be asked: at least one and not too many, each below 2^n
 pub record AreBits (n : ℕ) (bits : List ℕ) : Type 0 where
   pub some : 1 ≤ length bits
-  pub few : length bits ≤ 4096
+  pub few : length bits ≤ max_bitstrings
   pub below : All (λ b. b < 2 ^ n) bits
 
 -- a job before its ranges are counted, and the numbers of terms of its crossing gates
@@ -115,12 +116,12 @@ pub record IsDraft (j : Job) (radices : List ℕ) : Type 0 where
   pub in_circuit : All (λ q. q < j.circuit.qubits) j.part
   pub some_in_one : 1 ≤ length j.part
   pub some_in_two : length j.part < j.circuit.qubits
-  pub narrow_one : length j.part ≤ 20
-  pub narrow_two : j.circuit.qubits ≤ length j.part + 20
+  pub narrow_one : length j.part ≤ max_part_qubits
+  pub narrow_two : j.circuit.qubits ≤ length j.part + max_part_qubits
   pub radices_are : radices ≡ job_radices j
   pub known : All IsRadix radices
-  pub few_crossing : length radices ≤ 32
-  pub few_paths : path_count radices ≤ 2 ^ 32
+  pub few_crossing : length radices ≤ max_crossing
+  pub few_paths : path_count radices ≤ 2 ^ max_path_bits
   pub is_split : j.p + j.r ≤ length radices
   pub has_prefix : ForSome j.prefix (λ w. w < path_count (take j.p radices))
   pub bits_are : AreBits j.circuit.qubits j.bits

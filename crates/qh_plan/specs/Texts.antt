@@ -1,7 +1,8 @@
 -- The text of a job. Numbers are decimal without leading zeros, one space (32) stands between words, and each line
 -- ends with a line feed (10).
-use Rattle.std.specs.Prelude.{ℕ, zero, suc, ◌+◌, ◌*◌, ◌/◌, ◌%◌, ◌^◌, ◌<◌, List, [], ◌∷◌, ◌++◌, length, codes, decimal, Option, Some, None, All}
+use Rattle.std.specs.Prelude.{ℕ, ◌+◌, ◌*◌, List, [], ◌∷◌, ◌++◌, length, codes, decimal, Option, Some, None}
 use Rattle.std.specs.List.{flat_map}
+use Rattle.qh_text.specs.Bitstrings.{bits_text}
 use Rattle.qh_gates.specs.Circuits.{Circuit}
 use Rattle.qh_circuit.specs.Spelling.{circuit_text}
 use Rattle.qh_plan.specs.Jobs.{Job, ranges}
@@ -19,11 +20,7 @@ abbrev pub prefix_text : Option ℕ → List ℕ
 prefix_text None = codes "prefix all"
 prefix_text (Some w) = words (codes "prefix") (w ∷ [])
 
--- a digit for each qubit, that of qubit 0 first
-abbrev pub bits_text : ℕ → ℕ → List ℕ
-bits_text zero x = []
-bits_text (suc n) x = (48 + x % 2) ∷ bits_text n (x / 2)
-
+-- a bitstring and the end of its line
 abbrev pub bits_line : ℕ → ℕ → List ℕ
 bits_line qubits x = bits_text qubits x ++ 10 ∷ []
 
@@ -44,7 +41,3 @@ job_text j =
 -- the bytes of a journal of this job: 32 of its head, the job text, and for each range 10 and 64 for each bitstring
 unfoldable pub journal_length : Job → ℕ
 journal_length j = 32 + length (job_text j) + ranges j * (10 + 64 * length j.bits)
-
--- the times of the gates fit in a text
-abbrev pub HasTimes : Job → Type 0
-HasTimes j = All (λ g. g.time < 2 ^ 32) j.circuit.gates

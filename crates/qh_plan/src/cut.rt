@@ -1,5 +1,6 @@
 //! The two parts of a cut.
 ghost use Rattle.std.specs.Prelude.{◌≡◌, ◌==◌, ◌≤◌, [], IfOk, IfErr, OnOk, ◌<◌};
+ghost use Rattle.qh_limits.specs.Limits.{max_uncut_qubits};
 ghost use Rattle.qh_plan.specs.declared.fault.PlanFault.TheVariants as PlanFault;
 ghost use Rattle.std.specs.List.{list_any};
 ghost use Rattle.qh_plan.specs.Paths.{crosses};
@@ -7,21 +8,16 @@ ghost use Rattle.qh_plan.specs.Plans.{item_fault, rising, width_fault};
 
 use crate::fault::PlanFault;
 use qh_gates::{Circuit, Gate};
+use qh_limits::{MAX_PART_QUBITS, MAX_UNCUT_QUBITS};
 use std::alloc::{AllocError, Global};
-
-/// The most qubits of a part.
-const MAX_PART: u32 = 20;
-
-/// The most qubits of an uncut run.
-const MAX_UNCUT: u32 = 16;
 
 /// Whether a circuit may run without a cut: UncutTooWide exactly where it has more than 16 qubits. It takes no memory.
 pub fn check_uncut(circuit: &Circuit) -> Result<(), PlanFault>
-    ensures narrow { OnOk result (circuit.now.qubits ≤ 16) }
-    ensures wide { IfErr result (λ f. (16 < circuit.now.qubits) × (f ≡ PlanFault.UncutTooWide circuit.now.qubits)) }
+    ensures narrow { OnOk result (circuit.now.qubits ≤ max_uncut_qubits) }
+    ensures wide { IfErr result (λ f. (max_uncut_qubits < circuit.now.qubits) × (f ≡ PlanFault.UncutTooWide circuit.now.qubits)) }
 {
     let qubits = circuit.qubits();
-    if qubits > MAX_UNCUT {
+    if qubits > MAX_UNCUT_QUBITS {
         return Err(PlanFault::UncutTooWide { qubits });
     }
     Ok(())
@@ -63,10 +59,10 @@ pub(crate) fn width_fault(qubits: u32, one: u32) -> Option<PlanFault>
     if one == 0 || one == qubits {
         return Some(PlanFault::EmptyPart);
     }
-    if one > MAX_PART {
+    if one > MAX_PART_QUBITS {
         return Some(PlanFault::PartTooWide { qubits: one });
     }
-    if qubits - one > MAX_PART {
+    if qubits - one > MAX_PART_QUBITS {
         return Some(PlanFault::PartTooWide {
             qubits: qubits - one,
         });

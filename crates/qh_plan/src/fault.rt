@@ -30,12 +30,3 @@ pub enum PlanFault {
     /// Want of memory.
     Memory,
 }
-
-/// Why bytes give no job.
-#[derive(Clone, Copy, PartialEq, Eq, Debug)]
-pub enum JobTextFault {
-    /// They are the text of no job.
-    NotOne,
-    /// Want of memory.
-    Memory,
-}

@@ -1,5 +1,6 @@
 //! A circuit with a valid cut, and how its paths are numbered and grouped.
 ghost use Rattle.std.specs.Prelude.{◌≡◌, ◌↔◌, ◌+◌, ◌*◌, ◌^◌, ◌<◌, ◌≤◌, IsTrue, All, length};
+ghost use Rattle.qh_limits.specs.Limits.{max_bitstrings, max_path_bits, max_ranges};
 ghost use Rattle.qh_plan.specs.Plans.{range_count};
 ghost use Rattle.qh_plan.specs.Ranges.{IsSmall};
 
@@ -11,15 +12,10 @@ use crate::text::job_text;
 use crate::verdict::Verdict;
 use arrayvec::ArrayVec;
 use qh_gates::Circuit;
+use qh_limits::{MAX_JOURNAL_BYTES, MAX_RANGES};
 use qh_ring::Omega;
 use std::alloc::{AllocError, Global};
 use std::marker::Model;
-
-/// The most ranges of a run.
-const MAX_RANGES: u64 = 16_384;
-
-/// The most bytes of a journal.
-const MAX_JOURNAL: u64 = 1_073_741_824;
 
 /// A job: a circuit, the qubits of part 1, how many of the crossing gates are prefix and how many root, a prefix value
 /// if one is given, and the asked bitstrings. Contracts see these as one record.
@@ -60,6 +56,7 @@ impl Job {
     ghost use Rattle.std.specs.Prelude.{◌≡◌, ◌≢◌, ◌↔◌, ◌==◌, ◌+◌, ◌*◌, ◌/◌, ◌^◌, ◌<◌, ◌≤◌, ℕ, Option, Some, None, IsTrue, IfOk, IfErr, IfSome, IsSome, OnOk, OnErr};
     ghost use Rattle.std.specs.List.{AllZip};
     ghost use Rattle.std.specs.Option.{ForSome};
+    ghost use Rattle.qh_limits.specs.Limits.{max_path_bits};
     ghost use Rattle.qh_plan.specs.Jobs.{Job as JobValue, IsJob, job_radices, in_one, crossing, prefixes, paths, ranges, roots, per_range, earlier, first_path, digits_of};
     ghost use Rattle.qh_plan.specs.Paths.{path_number};
     ghost use Rattle.qh_plan.specs.Texts.{job_text};
@@ -91,14 +88,14 @@ impl Job {
         let roots = path_count(&radices[p as usize..][..r as usize]);
         let per_range = path_count(&radices[p as usize..][r as usize..]);
         let ranges = range_count(prefixes, roots, prefix);
-        if ranges > MAX_RANGES {
+        if ranges > u64::from(MAX_RANGES) {
             return Err(PlanFault::TooManyRanges { ranges });
         }
         let Ok(text) = job_text(alloc, &circuit, &part, p, r, prefix, &bits) else {
             return Err(PlanFault::Memory);
         };
         let bytes = journal_length(text.len() as u64, ranges, bits.len() as u64);
-        if bytes > MAX_JOURNAL {
+        if bytes > MAX_JOURNAL_BYTES {
             return Err(PlanFault::JournalTooLong { bytes });
         }
         Ok(Job {
@@ -176,10 +173,11 @@ impl Job {
         self.prefixes * self.roots * self.per_range
     }
 
-    /// How many ranges the run has, at most 16,384.
+    /// How many ranges the run has, at most 16,384. They hold at most 2^32 paths together.
     pub fn ranges(&self) -> u32
         ensures value { result ≡ ranges self.now }
         ensures valid { IsJob self.now }
+        ensures within { ranges self.now * per_range self.now ≤ 2 ^ max_path_bits }
     {
         range_count(self.prefixes, self.roots, self.prefix) as u32
     }
@@ -194,7 +192,7 @@ impl Job {
     /// How many pairs of a prefix and a root stand before those of the run.
     fn earlier(&self) -> u64
         ensures value { result ≡ earlier self.now self.now.prefix }
-        ensures within { result + ranges self.now ≤ 2 ^ 32 }
+        ensures within { result + ranges self.now ≤ 2 ^ max_path_bits }
     {
         match self.prefix {
             None => 0,
@@ -272,8 +270,9 @@ impl Job {
         }
     }
 
-    /// Whether the two are one job. Just then they have one text.
+    /// Whether the two are one job. Just then they have one text, and it is their texts that are compared.
     pub fn same(&self, other: &Job) -> bool
+        ensures same { IsTrue result ↔ (self.now ≡ other.now) }
         ensures text { IsTrue result ↔ (job_text self.now ≡ job_text other.now) }
     {
         self.text.as_slice() == other.text.as_slice()
@@ -297,9 +296,10 @@ impl Job {
         Vec::from_slice(alloc, self.text.as_slice())
     }
 
-    /// Lends the text.
-    pub(crate) fn text(&self) -> &[u8]
-        ensures { result.now ≡ job_text self.now }
+    /// Lends that text. A journal of the job has at most 2^30 bytes.
+    pub fn text(&self) -> &[u8]
+        ensures value { result.now ≡ job_text self.now }
+        ensures planned { IsPlanned self.now }
     {
         self.text.as_slice()
     }
@@ -319,8 +319,8 @@ fn range_count(prefixes: u64, roots: u64, prefix: Option<u32>) -> u64
 /// The bytes of a journal with so many ranges and bitstrings, whose job text is so long.
 fn journal_length(text: u64, ranges: u64, bits: u64) -> u64
     requires text { text < 2 ^ 63 }
-    requires ranges { ranges ≤ 16384 }
-    requires bits { bits ≤ 4096 }
+    requires ranges { ranges ≤ max_ranges }
+    requires bits { bits ≤ max_bitstrings }
     ensures { result ≡ 32 + text + ranges * (10 + 64 * bits) }
 {
     32 + text + ranges * (10 + 64 * bits)
@@ -328,7 +328,7 @@ fn journal_length(text: u64, ranges: u64, bits: u64) -> u64
 
 /// Whether there are so many numbers, each as small as the sum over so many paths is.
 fn are_sums(sums: &Sums, count: usize, paths: u64) -> bool
-    requires { paths ≤ 2 ^ 32 }
+    requires { paths ≤ 2 ^ max_path_bits }
     ensures { IsTrue result ↔ ((length sums.now ≡ count) × All (IsSmall (paths * 2 ^ 94)) sums.now) }
 {
     let limit = u128::from(paths) * (1 << 94);

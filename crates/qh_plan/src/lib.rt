@@ -1,7 +1,8 @@
 //! Cuts: a plan is refused for its first fault or gives a job, whose paths and ranges are numbered one to one and which one text names.
 //!
 //! `plan` goes a few times over the gates and the bitstrings and makes the job's text once. All calls of `Job` but
-//! `job_text` and all calls of `Sums` take no memory. The crate knows nothing of states, journals or workers. The
+//! `job_text` and all calls of `Sums` take no memory. The crate reads no job's text, and knows nothing of states, journals
+//! or workers. The
 //! definitions of parts, path numbers, jobs, refusals, texts and totals stand in `specs/`.
 #![tactic(auto)]
 
@@ -12,19 +13,17 @@ mod laws;
 mod part;
 mod paths;
 mod planning;
-mod reading;
 mod same;
 mod sums;
 mod text;
 mod verdict;
 
 pub use cut::check_uncut;
-pub use fault::{JobTextFault, PlanFault};
+pub use fault::PlanFault;
 pub use job::Job;
 pub use laws::{one_text_one_job, path_counts_are_powers_of_two};
 pub use part::read_part;
-pub use planning::plan;
-pub use reading::read_job_text;
+pub use planning::{are_bits, plan};
 pub use sums::Sums;
 pub use verdict::Verdict;
 

@@ -1,9 +1,10 @@
 //! The qubits of part 1 as a text.
-ghost use Rattle.std.specs.Prelude.{◌≡◌, ◌≢◌, ◌++◌, ◌∷◌, ◌<◌, ◌≤◌, [], ℕ, List, IfOk, IfErr, IfSome, IfNone, length, slice_index};
+ghost use Rattle.std.specs.Prelude.{◌≡◌, ◌≢◌, ◌++◌, ◌∷◌, ◌<◌, [], ℕ, List, IfOk, IfErr, IfSome, IfNone, length};
 ghost use Rattle.qh_plan.specs.Items.{AreNumbers, IsItemFault, items_of};
 
 use crate::fault::PlanFault;
 use qh_decimal::number_of;
+use qh_text::find;
 use std::alloc::Global;
 
 /// The numbers of a list with single commas between them, as in `0,2,5`.
@@ -41,23 +42,9 @@ fn first_item(text: &[u8]) -> (&[u8], Option<&[u8]>)
     ensures more { IfSome result.1 (λ rest. items_of text.now ≡ result.0.now ∷ items_of rest.now) }
     ensures shorter { IfSome result.1 (λ rest. length rest.now < length text.now) }
 {
-    let at = comma(text);
+    let at = find(text, b',');
     if at == text.len() {
         return (text, None);
     }
     (&text[..at], Some(&text[at + 1..]))
-}
-
-/// The index of the first comma, or the length where there is none.
-fn comma(bytes: &[u8]) -> usize
-    ensures within { result ≤ length bytes.now }
-    ensures before { (k : ℕ) → k < result → slice_index bytes.now k ≢ 44 }
-    ensures found { result < length bytes.now → slice_index bytes.now result ≡ 44 }
-{
-    for (i, byte) in bytes.iter().enumerate() {
-        if *byte == b',' {
-            return i;
-        }
-    }
-    bytes.len()
 }

@@ -1,6 +1,7 @@
 //! Path numbers: mixed radix over the crossing gates in the order of the circuit, the first the most significant.
 ghost use Rattle.std.specs.Prelude.{◌≡◌, ◌==◌, ◌+◌, ◌^◌, ◌<◌, ◌≤◌, ℕ, All, IfOk, length, take, drop};
 ghost use Rattle.std.specs.List.{AllZip, list_any};
+ghost use Rattle.qh_limits.specs.Limits.{max_gates, max_crossing, max_path_bits};
 ghost use Rattle.qh_gates.specs.declared.gate.Gate.{Gate as GateValue};
 ghost use Rattle.qh_gates.specs.Tables.{qubits_of};
 ghost use Rattle.qh_gates.specs.Terms.{terms_of};
@@ -12,13 +13,8 @@ use crate::cut::crosses;
 use crate::fault::PlanFault;
 use arrayvec::ArrayVec;
 use qh_gates::{Gate, Kind, terms};
+use qh_limits::{MAX_CROSSING, MAX_PATH_BITS};
 use std::alloc::{AllocError, Global};
-
-/// The most crossing gates.
-const MAX_CROSSING: usize = 32;
-
-/// The number of paths may have this exponent of two.
-const MAX_PATH_BITS: u32 = 32;
 
 /// How many terms a crossing gate has: one, two or four.
 fn radix(kind: Kind) -> u8
@@ -47,7 +43,7 @@ pub(crate) fn radices(alloc: Global, part: &[u32], gates: &[Gate]) -> Result<Vec
 
 /// The exponent of two of the number of paths.
 fn path_bits(radices: &[u8]) -> u32
-    requires { length radices.now ≤ 4096 }
+    requires { length radices.now ≤ max_gates }
     ensures { result ≡ path_bits radices.now }
 {
     let mut bits = 0;
@@ -64,7 +60,7 @@ fn path_bits(radices: &[u8]) -> u32
 /// More crossing gates or paths than there may be.
 pub(crate) fn path_fault(radices: &[u8]) -> Option<PlanFault>
     requires known { All IsRadix radices.now }
-    requires few { length radices.now ≤ 4096 }
+    requires few { length radices.now ≤ max_gates }
     ensures { result ≡ path_fault radices.now }
 {
     if radices.len() > MAX_CROSSING {
@@ -82,7 +78,7 @@ pub(crate) fn path_fault(radices: &[u8]) -> Option<PlanFault>
 /// How many paths there are over these gates.
 pub(crate) fn path_count(radices: &[u8]) -> u64
     requires known { All IsRadix radices.now }
-    requires few { path_count radices.now ≤ 2 ^ 32 }
+    requires few { path_count radices.now ≤ 2 ^ max_path_bits }
     ensures { result ≡ path_count radices.now }
 {
     let mut count = 1;
@@ -95,8 +91,8 @@ pub(crate) fn path_count(radices: &[u8]) -> u64
 /// A split of more gates than cross, or a prefix value that is none.
 pub(crate) fn split_fault(radices: &[u8], p: u32, r: u32, prefix: Option<u32>) -> Option<PlanFault>
     requires known { All IsRadix radices.now }
-    requires short { length radices.now ≤ 32 }
-    requires few { path_count radices.now ≤ 2 ^ 32 }
+    requires short { length radices.now ≤ max_crossing }
+    requires few { path_count radices.now ≤ 2 ^ max_path_bits }
     ensures { result ≡ split_fault radices.now p r prefix }
 {
     if u64::from(p) + u64::from(r) > radices.len() as u64 {
@@ -117,8 +113,8 @@ pub(crate) fn split_fault(radices: &[u8], p: u32, r: u32, prefix: Option<u32>) -
 /// The digits of a path: for each crossing gate the number of the term that the path picks.
 pub(crate) fn path_digits(radices: &[u8], path: u64) -> ArrayVec<u8, 32>
     requires known { All IsRadix radices.now }
-    requires short { length radices.now ≤ 32 }
-    requires few { path_count radices.now ≤ 2 ^ 32 }
+    requires short { length radices.now ≤ max_crossing }
+    requires few { path_count radices.now ≤ 2 ^ max_path_bits }
     requires below { path < path_count radices.now }
     ensures { result.items ≡ path_digits radices.now path }
 {
@@ -137,7 +133,7 @@ pub(crate) fn path_digits(radices: &[u8], path: u64) -> ArrayVec<u8, 32>
 pub(crate) fn path_number(radices: &[u8], digits: &[u8]) -> u64
     requires known { All IsRadix radices.now }
     requires below { AllZip (λ d r. d < r) digits.now radices.now }
-    requires few { path_count radices.now ≤ 2 ^ 32 }
+    requires few { path_count radices.now ≤ 2 ^ max_path_bits }
     ensures { result ≡ path_number radices.now digits.now }
 {
     let mut number = 0;

@@ -1,5 +1,6 @@
 //! From a circuit and a cut to a job.
-ghost use Rattle.std.specs.Prelude.{◌≡◌, ◌≢◌, Some, None, IfOk, IfErr, OnOk};
+ghost use Rattle.std.specs.Prelude.{◌≡◌, ◌≢◌, ◌↔◌, ◌^◌, ◌≤◌, Some, None, IfOk, IfErr, OnOk, IsTrue};
+ghost use Rattle.qh_limits.specs.Limits.{max_qubits};
 ghost use Rattle.qh_plan.specs.Plans.{AreBits, IsPlanned, first_fault, job_of};
 
 use crate::cut::{item_fault, rising, width_fault};
@@ -7,6 +8,7 @@ use crate::fault::PlanFault;
 use crate::job::Job;
 use crate::paths::{path_fault, radices, split_fault};
 use qh_gates::Circuit;
+use qh_limits::MAX_BITSTRINGS;
 use std::alloc::Global;
 
 /// The job that runs the circuit over the cut into the qubits of `part` and the others.
@@ -49,4 +51,21 @@ pub fn plan(
         return Err(fault);
     }
     Job::of_parts(alloc, circuit, one, (p, r), w, bits, radices)
+}
+
+/// Whether these bitstrings may be asked of a circuit with so many qubits: 1 to 4,096, each a basis index.
+pub fn are_bits(qubits: u32, bits: &[u64]) -> bool
+    requires { qubits ≤ max_qubits }
+    ensures { IsTrue result ↔ AreBits qubits bits.now }
+{
+    let count = index_count(qubits);
+    !bits.is_empty() && bits.len() <= MAX_BITSTRINGS && bits.iter().all(|b| *b < count)
+}
+
+/// 2^qubits.
+fn index_count(qubits: u32) -> u64
+    requires { qubits ≤ max_qubits }
+    ensures { result ≡ 2 ^ qubits }
+{
+    1 << qubits
 }

@@ -1,46 +1,39 @@
 //! What the clauses mean, on jobs worked out by hand.
-use crate::reading::are_bits;
 use crate::{
-    Job, JobTextFault, PlanFault, Sums, Verdict, check_uncut, one_text_one_job,
-    path_counts_are_powers_of_two, plan, read_job_text, read_part,
+    Job, PlanFault, Sums, Verdict, are_bits, check_uncut, one_text_one_job,
+    path_counts_are_powers_of_two, plan, read_part,
 };
+use qh_circuit::read_circuit;
 use qh_gates::{Circuit, Gate, Kind, arity};
 use qh_ring::{Omega, within};
 use std::alloc::Global;
 use std::process::Abort;
 use std::test::Fail;
 
-/// The text of the job of all of Bell's bitstrings: 80 bytes.
-const BELL: &[u8] =
-    b"job 1\npart 0\nsplit 0 0\nprefix all\nbits 4\n00\n10\n01\n11\ngates 2\n2\n0 h 0\n1 cnot 0 1\n";
+/// A Bell pair.
+const BELL: &[u8] = b"2\n0 h 0\n1 cnot 0 1\n";
 
-/// Three gates of two terms each, the first the prefix and the second the root.
-const THREE: &[u8] =
-    b"job 1\npart 0\nsplit 1 1\nprefix all\nbits 1\n00\ngates 3\n2\n0 cz 0 1\n1 cz 0 1\n2 cz 0 1\n";
-
-/// The same under the second prefix value.
-const SECOND: &[u8] =
-    b"job 1\npart 0\nsplit 1 1\nprefix 1\nbits 1\n00\ngates 3\n2\n0 cz 0 1\n1 cz 0 1\n2 cz 0 1\n";
+/// Three gates of two terms each.
+const THREE: &[u8] = b"2\n0 cz 0 1\n1 cz 0 1\n2 cz 0 1\n";
 
 /// A gate of two terms before one of four.
-const MIXED: &[u8] =
-    b"job 1\npart 1\nsplit 0 0\nprefix all\nbits 1\n00\ngates 2\n2\n0 cz 0 1\n1 is 1 0\n";
+const MIXED: &[u8] = b"2\n0 cz 0 1\n1 is 1 0\n";
 
-/// Texts that are no job's: no prefix line, a leading zero, a space at an end, a prefix value that is none, too few
-/// bitstrings, a wrong number of gates, no end of line.
-const NO_PREFIX: &[u8] = b"job 1\npart 0\nsplit 0 0\nbits 1\n00\ngates 0\n2\n";
-
-const LEADING_ZERO: &[u8] = b"job 1\npart 0\nsplit 0 00\nprefix all\nbits 1\n00\ngates 0\n2\n";
-
-const SPACE: &[u8] = b"job 1\npart 0 \nsplit 0 0\nprefix all\nbits 1\n00\ngates 0\n2\n";
-
-const NO_VALUE: &[u8] = b"job 1\npart 0\nsplit 0 0\nprefix 1\nbits 1\n00\ngates 0\n2\n";
-
-const TOO_FEW: &[u8] = b"job 1\npart 0\nsplit 0 0\nprefix all\nbits 2\n00\ngates 0\n2\n";
-
-const GATES: &[u8] = b"job 1\npart 0\nsplit 0 0\nprefix all\nbits 1\n00\ngates 1\n2\n";
-
-const NO_END: &[u8] = b"job 1\npart 0\nsplit 0 0\nprefix all\nbits 1\n00\ngates 0\n2";
+/// The job of these bitstrings of a circuit text, cut into qubit 0 and the others.
+fn job_of(
+    rt: &impl Abort,
+    alloc: Global,
+    text: &[u8],
+    split: (u32, u32),
+    prefix: Option<u32>,
+    bits: &[u64],
+) -> Result<Job, Fail> {
+    let circuit = read_circuit(alloc, text, u32::MAX)?;
+    let bits = Vec::from_slice(alloc, bits)?;
+    assert!(rt; circuit.qubits() <= 40);
+    assert!(rt; are_bits(circuit.qubits(), &bits));
+    Ok(plan(alloc, circuit, &[0], split.0, split.1, prefix, bits)?)
+}
 
 /// What a plan refuses of a circuit of this many qubits with `count` gates of one kind on qubits 0 and 1.
 fn refusal(
@@ -127,35 +120,44 @@ fn refusals_of_a_cut(rt: HostRuntime) -> Result<(), Fail> {
 
 #[test]
 fn refusals_of_paths(rt: HostRuntime) -> Result<(), Fail> {
-    for (kind, count, split, fault) in [
+    for (kind, count, split, answer) in [
         (
             Kind::Cz,
             33,
             (0, 0),
-            PlanFault::TooManyCrossing { count: 33 },
+            Some(PlanFault::TooManyCrossing { count: 33 }),
         ),
         (
             Kind::Id2,
             33,
             (0, 0),
-            PlanFault::TooManyCrossing { count: 33 },
+            Some(PlanFault::TooManyCrossing { count: 33 }),
         ),
-        (Kind::Is, 17, (0, 0), PlanFault::TooManyPaths { log2: 34 }),
-        (Kind::Cz, 2, (3, 0), PlanFault::PrefixRoot { crossing: 2 }),
+        (
+            Kind::Is,
+            17,
+            (0, 0),
+            Some(PlanFault::TooManyPaths { log2: 34 }),
+        ),
+        (
+            Kind::Cz,
+            2,
+            (3, 0),
+            Some(PlanFault::PrefixRoot { crossing: 2 }),
+        ),
         (
             Kind::Cz,
             15,
             (8, 7),
-            PlanFault::TooManyRanges { ranges: 32768 },
+            Some(PlanFault::TooManyRanges { ranges: 32768 }),
         ),
+        (Kind::Cz, 14, (7, 7), None),
+        (Kind::Cz, 13, (13, 0), None),
+        (Kind::Cz, 32, (6, 6), None),
     ] {
-        let answer = refusal(&rt, rt.alloc(), 2, (kind, count), &[0], split, &[0])?;
-        assert_eq!(rt; answer, Some(fault));
-    }
-    for (count, split) in [(14, (7, 7)), (13, (13, 0)), (32, (6, 6))] {
         assert_eq!(rt;
-            refusal(&rt, rt.alloc(), 2, (Kind::Cz, count), &[0], split, &[0])?,
-            None
+            refusal(&rt, rt.alloc(), 2, (kind, count), &[0], split, &[0])?,
+            answer
         );
     }
     Ok(())
@@ -174,8 +176,21 @@ fn a_journal_too_long(rt: HostRuntime) -> Result<(), Fail> {
 }
 
 #[test]
+fn bitstrings_that_may_be_asked(rt: HostRuntime) -> Result<(), Fail> {
+    for (bits, answer) in [
+        ([].as_slice(), false),
+        ([3].as_slice(), true),
+        ([0, 4].as_slice(), false),
+        ([1, 1].as_slice(), true),
+    ] {
+        assert_eq!(rt; are_bits(2, bits), answer);
+    }
+    Ok(())
+}
+
+#[test]
 fn numbers_of_paths(rt: HostRuntime) -> Result<(), Fail> {
-    let job = read_job_text(rt.alloc(), MIXED)?;
+    let job = job_of(&rt, rt.alloc(), MIXED, (0, 0), None, &[0])?;
     assert!(rt; 6 < job.paths());
     let digits = job.digits(6);
     assert_eq!(rt; digits.as_slice(), [1, 2].as_slice());
@@ -186,29 +201,25 @@ fn numbers_of_paths(rt: HostRuntime) -> Result<(), Fail> {
 
 #[test]
 fn ranges_of_a_run(rt: HostRuntime) -> Result<(), Fail> {
-    let job = read_job_text(rt.alloc(), THREE)?;
-    assert!(rt; 3 < job.ranges());
-    assert_eq!(rt; job.first_path(3), 6);
-    assert_eq!(rt; job.prefix_of(3), 1);
-    assert_eq!(rt; job.range_of(5), Some(2));
-    assert_eq!(rt; job.range_of(8), None);
-    Ok(())
-}
-
-#[test]
-fn ranges_under_a_prefix(rt: HostRuntime) -> Result<(), Fail> {
-    let job = read_job_text(rt.alloc(), SECOND)?;
-    assert!(rt; 1 < job.ranges());
-    assert_eq!(rt; job.first_path(1), 6);
-    assert_eq!(rt; job.prefix_of(1), 1);
-    assert_eq!(rt; job.range_of(4), Some(0));
-    assert_eq!(rt; job.range_of(3), None);
+    // With the first gate as prefix and the second as root, ranges hold two paths each.
+    for (value, range, first, prefix, path, found) in [
+        (None, 3, 6, 1, 5, Some(2)),
+        (None, 3, 6, 1, 8, None),
+        (Some(1), 1, 6, 1, 4, Some(0)),
+        (Some(1), 1, 6, 1, 3, None),
+    ] {
+        let job = job_of(&rt, rt.alloc(), THREE, (1, 1), value, &[0])?;
+        assert!(rt; range < job.ranges());
+        assert_eq!(rt; job.first_path(range), first);
+        assert_eq!(rt; job.prefix_of(range), prefix);
+        assert_eq!(rt; job.range_of(path), found);
+    }
     Ok(())
 }
 
 #[test]
 fn readers_of_a_job(rt: HostRuntime) -> Result<(), Fail> {
-    let job = read_job_text(rt.alloc(), SECOND)?;
+    let job = job_of(&rt, rt.alloc(), THREE, (1, 1), Some(1), &[0])?;
     assert_eq!(rt; job.crossing(), 3);
     assert_eq!(rt; job.split(), (1, 1));
     assert_eq!(rt; job.prefix_value(), Some(1));
@@ -223,7 +234,7 @@ fn readers_of_a_job(rt: HostRuntime) -> Result<(), Fail> {
 
 #[test]
 fn verdicts_that_fit(rt: HostRuntime) -> Result<(), Fail> {
-    let job = read_job_text(rt.alloc(), SECOND)?;
+    let job = job_of(&rt, rt.alloc(), THREE, (1, 1), Some(1), &[0])?;
     assert!(rt; 1 < job.ranges());
     assert_eq!(rt; job.fits(1, &Verdict::Over { path: 7 }), true);
     assert_eq!(rt; job.fits(1, &Verdict::Over { path: 5 }), false);
@@ -248,48 +259,29 @@ fn verdicts_that_fit(rt: HostRuntime) -> Result<(), Fail> {
 
 #[test]
 fn the_text_of_bell(rt: HostRuntime) -> Result<(), Fail> {
-    let job = read_job_text(rt.alloc(), BELL)?;
+    let text =
+        b"job 1\npart 0\nsplit 0 0\nprefix all\nbits 4\n00\n10\n01\n11\ngates 2\n2\n0 h 0\n1 cnot 0 1\n";
+    let job = job_of(&rt, rt.alloc(), BELL, (0, 0), None, &[0, 1, 2, 3])?;
     assert_eq!(rt; job.bits(), [0, 1, 2, 3].as_slice());
-    assert_eq!(rt; job.job_text(rt.alloc())?.as_slice(), BELL);
-    assert_eq!(rt; BELL.len(), 80);
+    assert_eq!(rt; job.job_text(rt.alloc())?.as_slice(), text.as_slice());
+    assert_eq!(rt; job.text(), text.as_slice());
+    assert_eq!(rt; text.len(), 80);
     one_text_one_job();
     Ok(())
 }
 
 #[test]
-fn texts_of_no_job(rt: HostRuntime) -> Result<(), Fail> {
-    for text in [
-        NO_PREFIX,
-        LEADING_ZERO,
-        SPACE,
-        NO_VALUE,
-        TOO_FEW,
-        GATES,
-        NO_END,
-    ] {
-        assert_eq!(rt;
-            read_job_text(rt.alloc(), text).err(),
-            Some(JobTextFault::NotOne)
-        );
-    }
-    Ok(())
-}
-
-/// Whether the two texts are of one job, and of jobs that differ in their prefix value at most.
-fn compared(alloc: Global, one: &[u8], two: &[u8]) -> Result<(bool, bool), JobTextFault> {
-    let one: Job = read_job_text(alloc, one)?;
-    let two: Job = read_job_text(alloc, two)?;
-    Ok((one.same(&two), one.same_but_prefix(&two)))
-}
-
-#[test]
 fn jobs_that_differ(rt: HostRuntime) -> Result<(), Fail> {
-    for (one, two, answer) in [
-        (THREE, THREE, (true, true)),
-        (THREE, SECOND, (false, true)),
-        (THREE, MIXED, (false, false)),
+    let job = job_of(&rt, rt.alloc(), THREE, (1, 1), None, &[0])?;
+    for (text, split, prefix, same, but_prefix) in [
+        (THREE, (1, 1), None, true, true),
+        (THREE, (1, 1), Some(1), false, true),
+        (THREE, (1, 2), None, false, false),
+        (MIXED, (1, 1), None, false, false),
     ] {
-        assert_eq!(rt; compared(rt.alloc(), one, two)?, answer);
+        let other = job_of(&rt, rt.alloc(), text, split, prefix, &[0])?;
+        assert_eq!(rt; job.same(&other), same);
+        assert_eq!(rt; job.same_but_prefix(&other), but_prefix);
     }
     Ok(())
 }

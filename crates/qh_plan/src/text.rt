@@ -1,29 +1,13 @@
 //! The text of a job.
-ghost use Rattle.std.specs.Prelude.{◌≡◌, ◌∷◌, ◌++◌, IfOk, OnOk, length};
+ghost use Rattle.std.specs.Prelude.{◌≡◌, ◌++◌, IfOk, OnOk};
 ghost use Rattle.std.specs.List.{flat_map};
 ghost use Rattle.qh_plan.specs.Jobs.{Job};
-ghost use Rattle.qh_plan.specs.Texts.{asked_text, bits_line, bits_text, gates_text, job_text, prefix_text, word};
+ghost use Rattle.qh_plan.specs.Texts.{asked_text, bits_line, gates_text, job_text, prefix_text, word};
 
-use itoa::{Buffer, Integer};
 use qh_circuit::print_circuit;
 use qh_gates::Circuit;
+use qh_text::{push_bits, push_word};
 use std::alloc::{AllocError, Global};
-
-/// Appends the number.
-fn push_number<I: Integer>(text: &mut Vec<u8>, number: I) -> Result<(), AllocError>
-    ensures { OnOk result (text.new.items ≡ text.old.items ++ I.text number) }
-{
-    let mut buffer = Buffer::new();
-    text.extend_from_slice(buffer.format(number).as_bytes())
-}
-
-/// Appends a space and the number.
-fn push_word<I: Integer>(text: &mut Vec<u8>, number: I) -> Result<(), AllocError>
-    ensures { OnOk result (text.new.items ≡ text.old.items ++ 32 ∷ I.text number) }
-{
-    text.push(b' ')?;
-    push_number(text, number)
-}
 
 /// Appends a space and the number, for each of the numbers.
 fn push_words(text: &mut Vec<u8>, numbers: &[u32]) -> Result<(), AllocError>
@@ -31,18 +15,6 @@ fn push_words(text: &mut Vec<u8>, numbers: &[u32]) -> Result<(), AllocError>
 {
     for number in numbers {
         push_word(text, *number)?;
-    }
-    Ok(())
-}
-
-/// Appends a digit for each qubit.
-fn push_bits(text: &mut Vec<u8>, qubits: u32, index: u64) -> Result<(), AllocError>
-    ensures { OnOk result (text.new.items ≡ text.old.items ++ bits_text qubits index) }
-{
-    let mut rest = index;
-    for q in 0..qubits {
-        text.push(b'0' + (rest % 2) as u8)?;
-        rest /= 2;
     }
     Ok(())
 }

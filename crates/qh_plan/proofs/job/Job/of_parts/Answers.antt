@@ -44,8 +44,8 @@ range_count-ranges-requires c =
     rw (c.path_count-prefixes.ensures, c.deref.ensures.value, c.path_count-roots.ensures, middle_is c.deref-2.result.now c.args.radices.items c.args.split.0 c.args.split.1 c.deref-2.ensures.value)
     (omega (arith, f.pairs))
 
-pub returns-then-bytes-gt-MAX_JOURNAL-clause-refused : goal.returns-then-bytes-gt-MAX_JOURNAL-clause-refused
-returns-then-bytes-gt-MAX_JOURNAL-clause-refused c =
+pub returns-then-bytes-gt-MAX_JOURNAL_BYTES-clause-refused : goal.returns-then-bytes-gt-MAX_JOURNAL_BYTES-clause-refused
+returns-then-bytes-gt-MAX_JOURNAL_BYTES-clause-refused c =
     let j : Job = record { circuit = c.args.circuit; part = c.args.part.items; p = c.args.split.0; r = c.args.split.1; prefix = c.args.prefix; bits = c.args.bits.items } in
     let said : c.in-Ok.text.items ≡ job_text (record { circuit = c.args.circuit; part = c.deref-4.result.now; p = c.args.split.0; r = c.args.split.1; prefix = c.args.prefix; bits = c.deref-5.result.now }) = c.in-Ok.ensures in
     let text : c.in-Ok.text.items ≡ job_text j = said ∙ (λ i. job_text (record { circuit = c.args.circuit; part = c.deref-4.ensures.value i; p = c.args.split.0; r = c.args.split.1; prefix = c.args.prefix; bits = c.deref-5.ensures.value i })) in
@@ -54,7 +54,7 @@ returns-then-bytes-gt-MAX_JOURNAL-clause-refused c =
     let k = counts_from j c.args.radices.items c.deref.result.now c.deref-2.result.now c.deref-3.result.now c.in-Ok.text.items _ _ _ _ _ _ _ c.requires
     c.deref.ensures.value c.deref-2.ensures.value c.deref-3.ensures.value c.path_count-prefixes.ensures c.path_count-roots.ensures c.path_count-per_range.ensures
     c.range_count-ranges.ensures text long many c.journal_length-bytes.ensures in
-    λ _. ap₂ size_fault (sym (count_is _ _ _ _ _ k)) (sym (bytes_is _ _ _ _ _ k)) ∙ too_long _ _ c.if-ranges-gt-MAX_RANGES.false c.if-bytes-gt-MAX_JOURNAL.true
+    λ _. ap₂ size_fault (sym (count_is _ _ _ _ _ k)) (sym (bytes_is _ _ _ _ _ k)) ∙ too_long _ _ (rw c.from.ensures at c.if-ranges-from.false) c.if-bytes-gt-MAX_JOURNAL_BYTES.true
 
 pub invariant_of-result : goal.invariant_of-result
 invariant_of-result c =
@@ -66,7 +66,7 @@ invariant_of-result c =
     let k = counts_from j c.args.radices.items c.deref.result.now c.deref-2.result.now c.deref-3.result.now c.in-Ok.text.items _ _ _ _ _ _ _ c.requires
     c.deref.ensures.value c.deref-2.ensures.value c.deref-3.ensures.value c.path_count-prefixes.ensures c.path_count-roots.ensures c.path_count-per_range.ensures
     c.range_count-ranges.ensures text long many c.journal_length-bytes.ensures in
-    kept _ _ _ _ _ k c.if-ranges-gt-MAX_RANGES.false c.if-bytes-gt-MAX_JOURNAL.false
+    kept _ _ _ _ _ k (rw c.from.ensures at c.if-ranges-from.false) c.if-bytes-gt-MAX_JOURNAL_BYTES.false
 
 pub returns-clause-planned : goal.returns-clause-planned
 returns-clause-planned c =
@@ -78,7 +78,7 @@ returns-clause-planned c =
     let k = counts_from j c.args.radices.items c.deref.result.now c.deref-2.result.now c.deref-3.result.now c.in-Ok.text.items _ _ _ _ _ _ _ c.requires
     c.deref.ensures.value c.deref-2.ensures.value c.deref-3.ensures.value c.path_count-prefixes.ensures c.path_count-roots.ensures c.path_count-per_range.ensures
     c.range_count-ranges.ensures text long many c.journal_length-bytes.ensures in
-    (kept _ _ _ _ _ k c.if-ranges-gt-MAX_RANGES.false c.if-bytes-gt-MAX_JOURNAL.false).planned
+    (kept _ _ _ _ _ k (rw c.from.ensures at c.if-ranges-from.false) c.if-bytes-gt-MAX_JOURNAL_BYTES.false).planned
 
 pub returns-clause-accepted : goal.returns-clause-accepted
 returns-clause-accepted c =
@@ -90,4 +90,4 @@ returns-clause-accepted c =
     let k = counts_from j c.args.radices.items c.deref.result.now c.deref-2.result.now c.deref-3.result.now c.in-Ok.text.items _ _ _ _ _ _ _ c.requires
     c.deref.ensures.value c.deref-2.ensures.value c.deref-3.ensures.value c.path_count-prefixes.ensures c.path_count-roots.ensures c.path_count-per_range.ensures
     c.range_count-ranges.ensures text long many c.journal_length-bytes.ensures in
-    ap₂ size_fault (sym (count_is _ _ _ _ _ k)) (sym (bytes_is _ _ _ _ _ k)) ∙ right_size _ _ c.if-ranges-gt-MAX_RANGES.false c.if-bytes-gt-MAX_JOURNAL.false
+    ap₂ size_fault (sym (count_is _ _ _ _ _ k)) (sym (bytes_is _ _ _ _ _ k)) ∙ right_size _ _ (rw c.from.ensures at c.if-ranges-from.false) c.if-bytes-gt-MAX_JOURNAL_BYTES.false

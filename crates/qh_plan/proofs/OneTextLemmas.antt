@@ -1,52 +1,26 @@
--- What a reader finds in the text of a job.
-use Rattle.std.proofs.Common.{◌≡◌, ◌≢◌, ◌==◌, ℕ, ◌+◌, ◌^◌, ◌<◌, ◌≤◌, inl, inr, true, not, List, [], ◌∷◌, ◌++◌, length, get_or, drop, map, codes, decimal, All, Option, Some, None, Result, Ok, arith, refl, sym, ap, subst, ◌∙◌, append_assoc, append-nil, length-append}
+-- One text is of one job.
+use Rattle.std.proofs.Common.{◌≡◌, ◌≢◌, ◌==◌, ℕ, ◌^◌, ◌<◌, ◌≤◌, true, not, List, [], ◌∷◌, ◌++◌, length, drop, map, codes, decimal, All, Option, Some, None, Result, Ok, arith, refl, sym, ap, subst, ◌∙◌, append-nil}
 use Rattle.std.specs.List.{flat_map, list_all}
 use Rattle.std.specs.Option.{ForSome}
 use Rattle.std.proofs.lemmas.Fmt.{decimal_is_IsNumeral}
-use Rattle.std.proofs.lemmas.Bool.{cases_lt, and_parts, eqb-false, not-true}
 use Rattle.std.proofs.lemmas.Nat.{mul-le}
 use Rattle.std.proofs.Math.Nat.{mul-one}
-use Rattle.std.proofs.lemmas.List.{get_or_at, get_or-append-add, drop_more}
-use Rattle.std.proofs.lemmas.List.Elements.{All-nil, All-cons, All-append, All-weaker, All-head}
+use Rattle.std.proofs.lemmas.List.Elements.{All-nil, All-cons, All-append, All-weaker}
 use Rattle.qh_decimal.specs.Decimal.{number_below}
 use Rattle.qh_decimal.proofs.Digits.{computed}
+use Rattle.qh_text.specs.Bitstrings.{bits_text}
+use Rattle.qh_text.proofs.CutLemmas.{Without, each_without, cut_same}
 use Rattle.qh_gates.specs.declared.gate.Gate.{Gate}
 use Rattle.qh_gates.specs.Circuits.{Circuit}
 use Rattle.qh_circuit.specs.Spelling.{circuit_text}
 use Rattle.qh_circuit.specs.Texts.{circuit_of, FaultyLine}
 use Rattle.qh_circuit.proofs.ReadBackLemmas.{read_back}
-use Rattle.qh_plan.specs.Jobs.{Job, IsJob, in_one, prefixes, roots}
-use Rattle.qh_plan.specs.Plans.{IsPlanned}
-use Rattle.qh_plan.specs.Texts.{word, words, prefix_text, bits_text, bits_line, gates_text, job_text, HasTimes}
-use Rattle.qh_plan.proofs.CutLemmas.{radices_known}
-use Rattle.qh_plan.proofs.PlanLemmas.{singles}
-use Rattle.qh_plan.proofs.RunLemmas.{IsCounted, counted_by, none_number}
+use Rattle.qh_plan.specs.Jobs.{Job, IsJob, prefixes, roots}
+use Rattle.qh_plan.specs.Texts.{word, words, prefix_text, gates_text, job_text}
+use Rattle.qh_plan.proofs.PlanLemmas.{counted_job}
+use Rattle.qh_plan.proofs.RunLemmas.{none_number}
 use Rattle.qh_plan.proofs.TextLemmas.{job_is}
-use Rattle.qh_plan.proofs.CutTextLemmas.{cut_is}
-use Rattle.qh_plan.proofs.SameLemmas.{Begins, empty, with_it, Without, words_without, words_same, cut_same, bits_lists, bits_same}
-
--- ---- bytes that stand in no text
-
-pub each_without : (s : ℕ) (xs : List ℕ) → list_all (λ b. not (b == s)) xs ≡ true → Without s xs
-each_without s [] e = All-nil (λ b. b ≢ s)
-each_without s (x ∷ xs) e =
-    let p = and_parts _ _ e in
-    All-cons (λ b. b ≢ s) x xs (eqb-false x s (not-true (x == s) p.0)) (each_without s xs p.1)
-
--- the byte stands here
-pub stands : (s : ℕ) (a b : List ℕ) → Without s (a ++ s ∷ b) → ⊥
-stands s a b h = h (length a) 0 (omega (arith, length-append a (s ∷ b))) (get_or_at a s b 0 (length a) refl)
-
--- the first byte, or the end, stands right behind a front that has none
-pub split_is : (bytes front back : List ℕ) (stop at : ℕ) → at ≤ length bytes → ((k : ℕ) → k < at → get_or bytes k 0 ≢ stop) → (at < length bytes → get_or bytes at 0 ≡ stop)
-    → Without stop front → Begins stop back → bytes ≡ front ++ back → at ≡ length front
-split_is bytes front back stop at within before found none empty e =
-    let f : bytes ≡ front = e ∙ append-nil front in
-    elim (cases_lt at (length bytes)) [
-      | inl l ↦ absurd (none at 0 (omega (arith, ap (length {A = ℕ}) f)) (ap (λ x. get_or x at 0) (sym f) ∙ found l))
-      | inr l ↦ omega (arith, ap (length {A = ℕ}) f)
-    ]
-split_is bytes front back stop at within before found none (with_it behind) e = cut_is bytes front behind stop at within before found none e
+use Rattle.qh_plan.proofs.SameLemmas.{words_without, words_same, bits_lists, bits_same}
 
 -- ---- numbers
 
@@ -56,60 +30,7 @@ number_is n l =
     let h = decimal_is_IsNumeral n (omega arith) in
     sym (computed (2 ^ 32) (decimal n) (Some n) ((h.0, omega (arith, h.1)), sym h.1))
 
--- ---- the numbers of a line, one more at a time
-
-never_some : {A : Type 0} (a : A) → ◌≡◌ {A = Option A} None (Some a) → ⊥
-never_some a e = (cc)
-
--- so many are read, and the rest of the line has the others
-pub record IsLeft (numbers got rest : List ℕ) : Type 0 where
-  pub head : List ℕ
-  pub others : List ℕ
-  pub without : Without 32 head
-  pub split : numbers ≡ got ++ others
-  pub rest_is : rest ≡ head ++ flat_map word others
-
-all_right : {X : Type 0} (P : X → Type 0) (xs ys : List X) → All P (xs ++ ys) → All P ys
-all_right P xs ys h k d l = subst P (get_or-append-add xs ys k d) (h (length xs + k) d (omega (arith, length-append xs ys)))
-
-pub left_next : (numbers got rest more all : List ℕ) (number : ℕ) → IsLeft numbers got rest → All (λ n. n < 2 ^ 32) numbers
-    → ((head : List ℕ) (n : ℕ) (others : List ℕ) → Without 32 head → n < 2 ^ 32 → rest ≡ head ++ flat_map word (n ∷ others) → (number ≡ n) × (more ≡ flat_map word others))
-    → (Without 32 rest → ⊥) → all ≡ got ++ number ∷ [] → IsLeft numbers all more
-left_next numbers got rest more all number h small only none a = by_others h.others h.split h.rest_is
-  where
-    by_others : (others : List ℕ) → numbers ≡ got ++ others → rest ≡ h.head ++ flat_map word others → IsLeft numbers all more
-    by_others [] s r = absurd (none (subst (Without 32) (sym (r ∙ append-nil h.head)) h.without))
-    by_others (n ∷ ns) s r =
-        let l = All-head (λ n. n < 2 ^ 32) n ns (all_right (λ n. n < 2 ^ 32) got (n ∷ ns) (subst (All (λ n. n < 2 ^ 32)) s small)) in
-        let o = only h.head n ns h.without l r in
-        record {
-          head = [];
-          others = ns;
-          without = All-nil (λ b. b ≢ 32);
-          split = s ∙ sym (append_assoc got (n ∷ []) ns) ∙ ap (λ (x : ℕ). (got ++ x ∷ []) ++ ns) (sym o.0) ∙ ap (λ x. x ++ ns) (sym a);
-          rest_is = o.1;
-        }
-
-pub left_end : (numbers got rest : List ℕ) → IsLeft numbers got rest → All (λ n. n < 2 ^ 32) numbers
-    → ((head : List ℕ) (n : ℕ) (others : List ℕ) → Without 32 head → n < 2 ^ 32 → rest ≡ head ++ flat_map word (n ∷ others) → ⊥) → got ≡ numbers
-left_end numbers got rest h small only = by_others h.others h.split h.rest_is
-  where
-    by_others : (others : List ℕ) → numbers ≡ got ++ others → rest ≡ h.head ++ flat_map word others → got ≡ numbers
-    by_others [] s r = sym (s ∙ append-nil got)
-    by_others (n ∷ ns) s r =
-        absurd (only h.head n ns h.without (All-head (λ n. n < 2 ^ 32) n ns (all_right (λ n. n < 2 ^ 32) got (n ∷ ns) (subst (All (λ n. n < 2 ^ 32)) s small))) r)
-
--- ---- bitstrings, one more at a time
-
-pub bits_next : (n : ℕ) (bits back rest : List ℕ) (i : ℕ) → i < length bits → rest ≡ flat_map (bits_line n) (drop i bits) ++ back
-    → rest ≡ bits_text n (get_or bits i 0) ++ 10 ∷ (flat_map (bits_line n) (drop (i + 1) bits) ++ back)
-bits_next n bits back rest i l e =
-    let x = bits_text n (get_or bits i 0) in
-    let f = flat_map (bits_line n) (drop (i + 1) bits) in
-    e ∙ ap (λ xs. flat_map (bits_line n) xs ++ back) (drop_more bits i 0 l)
-    ∙ append_assoc (x ++ 10 ∷ []) f back ∙ append_assoc x (10 ∷ []) (f ++ back)
-
--- ---- what a planned job keeps
+-- ---- what a job's text is made of
 
 pub record IsWritten (j : Job) : Type 0 where
   pub part : All (λ n. n < 2 ^ 32) j.part
@@ -119,14 +40,10 @@ pub record IsWritten (j : Job) : Type 0 where
   pub count : length j.bits < 2 ^ 32
   pub gates : length j.circuit.gates < 2 ^ 32
 
-pub known_radices : (j : Job) → IsJob j → IsCounted j
-known_radices j h = counted_by j (radices_known (in_one j) j.circuit.gates (singles j.circuit.qubits j.circuit.gates h.valid.fit)) h.few_paths
-
-pub written : (j : Job) → IsPlanned j → IsWritten j
-written j h =
-    let v = h.valid in
+pub written : (j : Job) → IsJob j → IsWritten j
+written j v =
     let few = v.valid.few in
-    let k = known_radices j v in
+    let k = counted_job j v in
     record {
       part = All-weaker (λ q. q < j.circuit.qubits) (λ q. q < 2 ^ 32) (λ q l. omega arith) j.part v.in_circuit;
       p = let s = v.is_split in let c = v.few_crossing in omega arith;
@@ -154,9 +71,9 @@ pub split_small : (j : Job) → IsWritten j → All (λ n. n < 2 ^ 32) (j.p ∷ 
 split_small j w = All-cons (λ n. n < 2 ^ 32) j.p (j.r ∷ []) w.p (one_number j.r w.r)
 
 -- the printed circuit is read back
-pub circuit_back : (j : Job) → IsPlanned j → HasTimes j → circuit_of 4294967295 (circuit_text j.circuit) ≡ Ok j.circuit
-circuit_back j h times =
-    read_back 4294967295 j.circuit h.valid.valid (omega arith) (All-weaker (λ (g : Gate). g.time < 2 ^ 32) (λ (g : Gate). g.time ≤ 4294967295) (λ g l. omega arith) j.circuit.gates times)
+pub circuit_back : (j : Job) → IsJob j → circuit_of 4294967295 (circuit_text j.circuit) ≡ Ok j.circuit
+circuit_back j h =
+    read_back 4294967295 j.circuit h.valid (omega arith) (All-weaker (λ (g : Gate). g.time < 2 ^ 32) (λ (g : Gate). g.time ≤ 4294967295) (λ g l. omega arith) j.circuit.gates h.valid.times)
 
 -- ---- one text, one job
 
@@ -184,8 +101,8 @@ prefix_same (Some w) (Some v) ho hu e =
 same_job : (j k : Job) → j.circuit ≡ k.circuit → j.part ≡ k.part → j.p ≡ k.p → j.r ≡ k.r → j.prefix ≡ k.prefix → j.bits ≡ k.bits → j ≡ k
 same_job j k a b c d e f = λ i. record { circuit = a i; part = b i; p = c i; r = d i; prefix = e i; bits = f i }
 
-pub one_job : (j k : Job) → IsPlanned j → IsPlanned k → HasTimes j → HasTimes k → job_text j ≡ job_text k → j ≡ k
-one_job j k hj hk tj tk e =
+pub one_job : (j k : Job) → IsJob j → IsJob k → job_text j ≡ job_text k → j ≡ k
+one_job j k hj hk e =
     let wj = written j hj in
     let wk = written k hk in
     let name = λ (t : List ℕ) (h : list_all (λ b. not (b == 10)) t ≡ true). each_without 10 t h in
@@ -209,9 +126,9 @@ one_job j k hj hk tj tk e =
     let c5 = cut_same 10 (words (codes "gates") (length j.circuit.gates ∷ [])) (words (codes "gates") (length k.circuit.gates ∷ [])) (circuit_text j.circuit) (circuit_text k.circuit)
     (line_without (codes "gates") (length j.circuit.gates ∷ []) (name (codes "gates") refl) (one_number (length j.circuit.gates) wj.gates))
     (line_without (codes "gates") (length k.circuit.gates ∷ []) (name (codes "gates") refl) (one_number (length k.circuit.gates) wk.gates)) lists.1 in
-    let circuit : j.circuit ≡ k.circuit = same_ok j.circuit k.circuit (sym (circuit_back j hj tj) ∙ ap (circuit_of 4294967295) c5.1 ∙ circuit_back k hk tk) in
+    let circuit : j.circuit ≡ k.circuit = same_ok j.circuit k.circuit (sym (circuit_back j hj) ∙ ap (circuit_of 4294967295) c5.1 ∙ circuit_back k hk) in
     let n = ap (λ (c : Circuit). c.qubits) circuit in
-    let bits : j.bits ≡ k.bits = bits_same j.circuit.qubits j.bits k.bits hj.valid.bits_below
-    (subst (λ m. All (λ x. x < 2 ^ m) k.bits) (sym n) hk.valid.bits_below)
+    let bits : j.bits ≡ k.bits = bits_same j.circuit.qubits j.bits k.bits hj.bits_below
+    (subst (λ m. All (λ x. x < 2 ^ m) k.bits) (sym n) hk.bits_below)
     (lists.0 ∙ ap (λ m. map (bits_text m) k.bits) (sym n)) count in
     same_job j k circuit part p.0 r.0 prefix bits
