@@ -1,0 +1,3 @@
+-- Lemmas of the reader.
+mod ReadLemmas
+mod AcceptLemmas
