@@ -9,3 +9,4 @@ pub mod TraceLemmas
 pub mod PrefixLemmas
 pub mod TotalLemmas
 pub mod Examples
+pub mod SlotLemmas

@@ -1,7 +1,6 @@
 -- What the ranges of a run answer, and what its job asks.
 use Rattle.std.proofs.Common.{◌≡◌, ℕ, zero, suc, ◌+◌, ◌-◌, ◌*◌, ◌^◌, ◌<◌, ◌≤◌, inl, inr, Bool, true, false, cond, eqb, List, [], ◌∷◌, length, map, drop, Option, Some, None, arith, refl, sym, ap, subst, ◌∙◌}
 use Rattle.std.proofs.Math.Path.{ap₂}
-use Rattle.std.specs.Option.{ForSome}
 use Rattle.std.specs.List.{All, list_all}
 use Rattle.std.proofs.lemmas.List.Elements.{All-head, All-tail, All-cons, All-nil}
 use Rattle.std.proofs.lemmas.Bool.{and_parts, cases_Bool, false≢true}
@@ -12,7 +11,7 @@ use Rattle.qh_gates.specs.declared.gate.Gate.{Gate}
 use Rattle.qh_gates.specs.declared.kind.Kind.{Kind}
 use Rattle.qh_gates.specs.Tables.{qubits_of, matrix_of}
 use Rattle.qh_plan.specs.Paths.{differ, path_count}
-use Rattle.qh_plan.specs.Jobs.{Job, IsJob, in_one, job_radices, paths, prefixes, roots, per_range, digits_of, ranges_of, ranges, earlier, first_path}
+use Rattle.qh_plan.specs.Jobs.{Job, IsJob, in_one, job_radices, prefixes, roots, per_range, digits_of, ranges_of, ranges, earlier, first_path}
 use Rattle.qh_plan.specs.declared.verdict.Verdict.{Verdict}
 use Rattle.qh_plan.specs.declared.verdict.Verdict.TheVariants.{Sum}
 use Rattle.qh_plan.specs.Verdicts.{added, merged_slot, total_below}
@@ -23,6 +22,8 @@ use Rattle.qh_meaning.specs.Limits.{are_narrow, path_fits}
 use Rattle.qh_meaning.specs.Values.{or_here, first_failing, over_or_sum, sums_of, value_of, range_value, run_value}
 use Rattle.qh_ring.proofs.SumLemmas.{sum_below_same, sum_below_blocks}
 use Rattle.qh_plan.proofs.PathLemmas.{path_count_split}
+use Rattle.qh_plan.proofs.PlanLemmas.{counted_job}
+use Rattle.qh_plan.proofs.RunLemmas.{few_in_run}
 use Rattle.qh_gates.specs.Circuits.{Fits}
 use Rattle.qh_meaning.proofs.PathLemmas.{IsCut, sum_of_paths}
 use Rattle.qh_meaning.proofs.HalfLemmas.{LiesIn, path_is_product}
@@ -203,18 +204,6 @@ run_within j h few fit =
     (λ t. narrow_of_fits j (first_path j t.0 + t.1) (fit t.0 t.1 t.2 t.3))
     (λ b n. within_126 _ _ (few_paths (ranges j) (per_range j) few) (run_at_most j b (λ i k l m. n (i, k, l, m)))))
 
--- ---- the paths of a run are at most those of the circuit
-few_parts : (m n t : ℕ) → m * n ≡ t → t ≤ 2 ^ 32 → 0 < m → n ≤ 2 ^ 32
-few_parts zero n t e l p = absurd (omega arith)
-few_parts (suc m) n t e l p = omega arith
-
-few_under : (j : Job) (prefix : Option ℕ) → paths j ≤ 2 ^ 32 → ForSome prefix (λ w. w < prefixes j) → ranges_of j prefix * per_range j ≤ 2 ^ 32
-few_under j None few h = let e = all_ranges j in omega arith
-few_under j (Some w) few h =
-    few_parts (prefixes j) (roots j * per_range j) (paths j) (ap (λ n. prefixes j * n) (under_prefix j) ∙ path_count_split j.p (job_radices j)) few (some_prefix (prefixes j) w (h w refl))
-  where
-    some_prefix : (n w : ℕ) → w < n → 0 < n
-    some_prefix n w l = omega arith
-
+-- the paths of a run are at most those of the circuit
 pub few_run : (j : Job) → IsJob j → ranges j * per_range j ≤ 2 ^ 32
-few_run j h = few_under j j.prefix h.few_paths h.has_prefix
+few_run j h = few_in_run j h (counted_job j h)

@@ -14,16 +14,9 @@ use Rattle.qh_plan.specs.declared.verdict.Verdict.{Verdict}
 use Rattle.qh_plan.specs.declared.verdict.Verdict.TheVariants.{Sum, Over}
 use Rattle.qh_plan.specs.Jobs.{Job, ranges}
 use Rattle.qh_plan.specs.Verdicts.{added, merged_slot, total_below, total}
-use Rattle.qh_meaning.specs.Laws.{AreFull, slot_number, IsTotal}
-
--- the path that a slot names
-path_in : Option Verdict → Option ℕ
-path_in None = None
-path_in (Some (Sum sums)) = None
-path_in (Some (Over path)) = Some path
+use Rattle.qh_meaning.specs.Slots.{slot_number, path_in, AreFull, IsTotal}
 
 path_in_is : (o : Option Verdict) (path : ℕ) → path_in o ≡ Some path → o ≡ Some (Over path)
-unfolding path_in
 path_in_is None path e = absurd (none-some path e)
 path_in_is (Some (Sum sums)) path e = absurd (none-some path e)
 path_in_is (Some (Over p)) path e = ap (λ q. Some (Over (unwrap_or q 0))) e
@@ -41,7 +34,7 @@ at_added (x ∷ xs) [] k e l = absurd (omega arith)
 at_added (x ∷ xs) (y ∷ ys) zero e l = refl
 at_added (x ∷ xs) (y ∷ ys) (suc k) e l = at_added xs ys k (omega arith) (omega arith)
 
-nothing_at : (bits : List ℕ) (k : ℕ) → k < length bits → at_index (map (λ b. nothing) bits) k ≡ nothing
+pub nothing_at : (bits : List ℕ) (k : ℕ) → k < length bits → at_index (map (λ b. nothing) bits) k ≡ nothing
 nothing_at [] k l = absurd (omega arith)
 nothing_at (b ∷ bits) zero l = refl
 nothing_at (b ∷ bits) (suc k) l = nothing_at bits k (omega arith)
@@ -59,7 +52,6 @@ module _ (bits : List ℕ) (slots : ℕ → Option Verdict) (full : (i : ℕ) (s
 
   -- a slot that names one
   this_here : (n p : ℕ) → slots n ≡ Some (Over p) → (i q : ℕ) → i ≡ n → path_in (slots i) ≡ Some q → p ≡ q
-  unfolding path_in
   this_here n p e i q s g = ap (λ o. unwrap_or o 0) (ap path_in (sym e) ∙ ap (λ i. path_in (slots i)) (sym s) ∙ g)
 
   over_more : (n path : ℕ) (o : Option Verdict) → slots n ≡ o → path_in o ≡ None → Says n (Over path) → Says (suc n) (Over path)
@@ -82,7 +74,7 @@ module _ (bits : List ℕ) (slots : ℕ → Option Verdict) (full : (i : ℕ) (s
   ]
 
   says_more : (n : ℕ) (v : Verdict) (o : Option Verdict) → slots n ≡ o → Says n v → Says (suc n) (merged_slot v o)
-  unfolding Says path_in
+  unfolding Says
   says_more n (Over p) None e h = over_more n p None e refl h
   says_more n (Over p) (Some (Sum t)) e h = over_more n p (Some (Sum t)) e refl h
   says_more n (Sum s) None e h = (
@@ -139,7 +131,7 @@ module _ (bits : List ℕ) (slots : ℕ → Option Verdict) (full : (i : ℕ) (s
   says_total (suc n) = says_more n (total_below bits slots n) (slots n) refl (says_total n)
 
 pub is_total : (j : Job) (slots : ℕ → Option Verdict) → AreFull j slots → IsTotal j slots
-unfolding Says path_in
+unfolding Says
 is_total j slots full =
     let says = λ (v : Verdict) (e : total j slots ≡ v). subst (Says j.bits slots full (ranges j)) e (says_total j.bits slots full (ranges j)) in
     record {

@@ -1,14 +1,13 @@
 -- The laws of a cut circuit.
-use Rattle.std.specs.Prelude.{◌≡◌, ℕ, ◌+◌, ◌/◌, ◌^◌, ◌<◌, ◌≤◌, ◌↔◌, IsTrue, List, All, length, map, take, Option, Some, None}
+use Rattle.std.specs.Prelude.{◌≡◌, ℕ, ◌+◌, ◌/◌, ◌^◌, ◌<◌, ◌↔◌, IsTrue, List, All, map, take}
+use Rattle.qh_limits.specs.Limits.{coefficient_bits}
 use Rattle.qh_ring.specs.declared.number.Omega.{Omega}
-use Rattle.qh_ring.specs.Numbers.{product, nothing, IsWithin, AreNarrow}
-use Rattle.qh_ring.specs.States.{sum_below, at_index}
+use Rattle.qh_ring.specs.Numbers.{product, IsWithin, AreNarrow}
+use Rattle.qh_ring.specs.States.{sum_below}
 use Rattle.qh_gates.specs.Evolution.{uncut, StateFits}
-use Rattle.qh_plan.specs.declared.verdict.Verdict.{Verdict}
 use Rattle.qh_plan.specs.declared.verdict.Verdict.TheVariants.{Sum, Over}
 use Rattle.qh_plan.specs.Paths.{path_number}
 use Rattle.qh_plan.specs.Jobs.{Job, IsJob, job_radices, paths, digits_of, per_range, ranges, first_path}
-use Rattle.qh_plan.specs.Verdicts.{total}
 use Rattle.qh_meaning.specs.Paths.{path_amplitude}
 use Rattle.qh_meaning.specs.Asked.{paths_per_prefix, asked}
 use Rattle.qh_meaning.specs.Halves.{half_one, half_two}
@@ -51,7 +50,7 @@ NoneOver j = (path : ℕ) → IsInRun j path → IsTrue (path_fits j path)
 -- where no path of the run is over, the run answers exactly what is asked, each sum within 126 bits
 pub record IsAsked (j : Job) : Type 0 where
   pub value : run_value j ≡ Sum (map (asked j) j.bits)
-  pub within : All (IsWithin 126) (map (asked j) j.bits)
+  pub within : All (IsWithin coefficient_bits) (map (asked j) j.bits)
 
 abbrev pub AskedSumLaw : Type 0
 AskedSumLaw = (j : Job) → IsJob j → NoneOver j → IsAsked j
@@ -69,32 +68,3 @@ pub record NamesLeast (j : Job) : Type 0 where
 
 abbrev pub LeastOverLaw : Type 0
 LeastOverLaw = (j : Job) → NamesLeast j
-
--- ---- the total of any verdicts, of some of the ranges or of all
--- each sum has a number for each asked index
-abbrev pub AreFull : Job → (ℕ → Option Verdict) → Type 0
-AreFull j slots = (i : ℕ) (sums : List Omega) → slots i ≡ Some (Sum sums) → length sums ≡ length j.bits
-
--- one of the job's slots names this path
-pub record IsNamed (j : Job) (slots : ℕ → Option Verdict) (path : ℕ) : Type 0 where
-  pub range : ℕ
-  pub below : range < ranges j
-  pub is : slots range ≡ Some (Over path)
-
--- what a slot gives the asked index of this place
-abbrev pub slot_number : Option Verdict → ℕ → Omega
-slot_number None place = nothing
-slot_number (Some (Sum sums)) place = at_index sums place
-slot_number (Some (Over path)) place = nothing
-
--- the total is over with the least path that a slot names, and where none does, it is the sum of their sums
-pub record IsTotal (j : Job) (slots : ℕ → Option Verdict) : Type 0 where
-  pub over : (path : ℕ) → total j slots ≡ Over path → IsNamed j slots path
-  pub least : (path other : ℕ) → total j slots ≡ Over path → IsNamed j slots other → path ≤ other
-  pub none : (sums : List Omega) → total j slots ≡ Sum sums → (path : ℕ) → ¬ IsNamed j slots path
-  pub full : (sums : List Omega) → total j slots ≡ Sum sums → length sums ≡ length j.bits
-  pub sum : (sums : List Omega) → total j slots ≡ Sum sums → (place : ℕ) → place < length j.bits
-      → at_index sums place ≡ sum_below (ranges j) (λ i. slot_number (slots i) place)
-
-abbrev pub TotalLaw : Type 0
-TotalLaw = (j : Job) (slots : ℕ → Option Verdict) → AreFull j slots → IsTotal j slots

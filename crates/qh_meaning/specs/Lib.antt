@@ -6,3 +6,4 @@ pub mod Limits
 pub mod Values
 pub mod Traces
 pub mod Laws
+pub mod Slots

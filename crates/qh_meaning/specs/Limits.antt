@@ -1,6 +1,7 @@
 -- Whether a path stays within the limits of its numbers, as tests that compute.
 use Rattle.std.specs.Prelude.{ℕ, zero, suc, ◌^◌, Bool, true, ◌&&◌, nat_lt, unsigned_abs, ℤ, List}
 use Rattle.std.specs.List.{list_all}
+use Rattle.qh_limits.specs.Limits.{coefficient_bits, product_bits}
 use Rattle.qh_ring.specs.declared.number.Omega.{Omega}
 use Rattle.qh_ring.specs.Numbers.{scaled_by}
 use Rattle.qh_ring.specs.States.{ground}
@@ -19,7 +20,7 @@ is_within bits z = is_below bits z.a && (is_below bits z.b && (is_below bits z.c
 
 -- each of the sixteen products of a coefficient of x and one of y has a magnitude below 2 ^ 92
 abbrev pub are_narrow : Omega → Omega → Bool
-are_narrow x y = is_within 92 (scaled_by x.a y) && (is_within 92 (scaled_by x.b y) && (is_within 92 (scaled_by x.c y) && is_within 92 (scaled_by x.d y)))
+are_narrow x y = is_within product_bits (scaled_by x.a y) && (is_within product_bits (scaled_by x.b y) && (is_within product_bits (scaled_by x.c y) && is_within product_bits (scaled_by x.d y)))
 
 -- each number below n passes the test
 abbrev pub all_below : ℕ → (ℕ → Bool) → Bool
@@ -28,7 +29,7 @@ all_below (suc n) test = all_below n test && test n
 
 -- each of a state's 2^n numbers is within 126 bits
 abbrev pub state_fits : ℕ → (ℕ → Omega) → Bool
-state_fits n v = all_below (2 ^ n) (λ x. is_within 126 (v x))
+state_fits n v = all_below (2 ^ n) (λ x. is_within coefficient_bits (v x))
 
 -- so is each number of each state of a trace
 abbrev pub trace_fits : ℕ → (ℕ → Omega) → List Operation → Bool

@@ -6,7 +6,14 @@ ghost use Rattle.qh_meaning.specs.Laws.{
   AreLimits,
   AskedSumLaw,
   LeastOverLaw,
+};
+ghost use Rattle.qh_meaning.specs.Slots.{
   TotalLaw,
+  RangeFitsLaw,
+  FitLaw,
+  BelowLaw,
+  PartedLaw,
+  FilledLaw,
 };
 
 /// Along each path of a job, the number at each of the circuit's indices is the product of two half amplitudes:
@@ -46,4 +53,32 @@ pub fn run_names_the_least_path_over()
 /// for each asked index, the sum of their numbers there; a slot without a verdict adds nothing.
 pub fn total_is_the_least_path_or_the_sum()
     ensures { TotalLaw }
+{}
+
+/// What a range answers may be that of the range: a number for each asked index, each as small as that many paths make
+/// it, or a path of the range.
+pub fn range_value_fits()
+    ensures { RangeFitsLaw }
+{}
+
+/// The total of slots each of which may be that of its range is within 126 bits, whoever wrote them, and so is the sum
+/// of those below any of them.
+pub fn total_of_fitting_slots_is_bounded()
+    ensures { FitLaw }
+{}
+
+/// The total depends on the slots below the number of ranges alone.
+pub fn total_depends_on_the_ranges_alone()
+    ensures { BelowLaw }
+{}
+
+/// The total is over with the least path that a slot names, and where none does it is what the slots give together.
+/// Both are defined apart, so that a run may keep both.
+pub fn total_is_two_parts()
+    ensures { PartedLaw }
+{}
+
+/// A verdict in a slot that had none adds its numbers to what the slots give together, or its path where it is the least.
+pub fn one_more_verdict_adds_once()
+    ensures { FilledLaw }
 {}
