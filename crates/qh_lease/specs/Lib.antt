@@ -1,4 +1,3 @@
-pub mod Count
 pub mod Lease
 pub mod Marks
 pub mod Register

@@ -1,10 +1,11 @@
+//! A timer that reads the clock.
 ghost use Rattle.std.specs.Prelude.{◌≡◌, ◌≤◌, ◌⊎◌, Some, None, true, false};
 ghost use Rattle.std.specs.Bool.{OnTrue, OnFalse};
-ghost use Rattle.qh_lease.specs.Count.{Rose};
+ghost use Rattle.qh_counts.specs.Counts.{raised, Rose};
 
-use crate::leases::MOST_RANGES;
 use crate::timer::Timer;
 use crate::timer_counts::TimerCounts;
+use qh_limits::MAX_RANGES;
 use std::alloc::Global;
 use std::marker::Model;
 use std::rt::Clock;
@@ -42,13 +43,16 @@ impl<'r, R: Clock> Drop for ClockTimer<'r, R> {
 }
 
 impl<'r, R: Clock + Sync> ClockTimer<'r, R> {
-    /// A timer that takes room for the times of [`MOST_RANGES`] ranges. Where it finds no memory, it is a
+    /// A timer whose counts are 0. It takes room for the times of `MAX_RANGES` ranges. Where it finds no memory, it is a
     /// timer without a number of seconds.
     pub fn new(rt: &'r R, alloc: Global, seconds: Option<u64>) -> ClockTimer<'r, R>
-        ensures { (result.seconds ≡ seconds) ⊎ (result.seconds ≡ None) }
+        ensures seconds { (result.seconds ≡ seconds) ⊎ (result.seconds ≡ None) }
+        ensures granted { result.granted ≡ 0 }
+        ensures due { result.due ≡ 0 }
+        ensures not_due { result.not_due ≡ 0 }
     {
         let count = if seconds.is_some() {
-            MOST_RANGES as usize
+            MAX_RANGES as usize
         } else {
             0
         };
@@ -92,8 +96,10 @@ impl<'r, R: Clock> Timer for ClockTimer<'r, R> {
     /// Notes when a range was granted.
     fn granted(&mut self, range: u32, _attempt: u32)
         ensures granted { Rose self.old.granted self.new.granted }
+        ensures granted_kept { self.old.granted ≤ self.new.granted }
         ensures due { self.new.due ≡ self.old.due }
         ensures not_due { self.new.not_due ≡ self.old.not_due }
+        ensures once { self.new.granted ≡ raised self.old.granted }
         ensures seconds { self.new.seconds ≡ self.old.seconds }
     {
         if let Some(since) = self.since.get_mut(range as usize) {
@@ -107,8 +113,14 @@ impl<'r, R: Clock> Timer for ClockTimer<'r, R> {
         ensures granted { self.new.granted ≡ self.old.granted }
         ensures due { OnTrue result (Rose self.old.due self.new.due) }
         ensures not_due { OnFalse result (Rose self.old.not_due self.new.not_due) }
+        ensures due_stays { OnFalse result (self.new.due ≡ self.old.due) }
+        ensures not_due_stays { OnTrue result (self.new.not_due ≡ self.old.not_due) }
         ensures due_kept { self.old.due ≤ self.new.due }
         ensures not_due_kept { self.old.not_due ≤ self.new.not_due }
+
+        // The counts that rise, exactly.
+        ensures due_once { OnTrue result (self.new.due ≡ raised self.old.due) }
+        ensures not_due_once { OnFalse result (self.new.not_due ≡ raised self.old.not_due) }
         ensures seconds { self.new.seconds ≡ self.old.seconds }
         ensures never { self.old.seconds ≡ None → result ≡ false }
         ensures at_once { self.old.seconds ≡ Some 0 → result ≡ true }

@@ -1,7 +1,7 @@
-/// How often a range may be granted.
-pub const MOST_GRANTS: u32 = 16;
+//! Who holds a range.
+use qh_limits::MAX_GRANTS;
 
-/// Who holds a range. An attempt is the number of the grant, 1 to [`MOST_GRANTS`].
+/// Who holds a range. An attempt is the number of the grant, 1 to `MAX_GRANTS`.
 #[derive(Clone, Copy, Debug, PartialEq, Eq)]
 pub enum Lease {
     /// It was never granted.
@@ -18,14 +18,14 @@ impl Lease {
     ghost use Rattle.std.specs.Prelude.{◌≡◌, ◌+◌, IsTrue};
     ghost use Rattle.qh_lease.specs.Lease.{grants_of, may_grant};
 
-    /// Whether the range may be granted: it is not acknowledged, and has had fewer than [`MOST_GRANTS`].
+    /// Whether the range may be granted: it is not acknowledged, and has had fewer than `MAX_GRANTS`.
     pub fn may_grant(self) -> bool
         ensures { result ≡ may_grant self }
     {
         match self {
             Lease::Fresh => true,
-            Lease::Out { attempt } => attempt < MOST_GRANTS,
-            Lease::Returned { attempt } => attempt < MOST_GRANTS,
+            Lease::Out { attempt } => attempt < MAX_GRANTS,
+            Lease::Returned { attempt } => attempt < MAX_GRANTS,
             Lease::Acked => false,
         }
     }

@@ -1,15 +1,14 @@
+//! The leases of all ranges of a run.
 ghost use Rattle.std.specs.Prelude.{◌≡◌, ◌≢◌, ◌↔◌, ◌<◌, ◌≤◌, ◌+◌, length, replicate, slice_set, IfOk, IfSome, IfNone, IsTrue};
 ghost use Rattle.std.specs.Bool.{OnTrue, OnFalse};
 ghost use Rattle.qh_lease.specs.Lease.{lease_at, grants_of, is_fresh, may_grant, may_grant_out, may_grant_returned, NonePasses, IsLowest};
 ghost use Rattle.qh_lease.specs.Marks.{NoneMarked, IsLowestMarked};
 
-use crate::lease::{Lease, MOST_GRANTS};
+use crate::lease::Lease;
 use crate::marks::Marks;
+use qh_limits::{MAX_GRANTS, MAX_RANGES};
 use std::alloc::{AllocError, Global};
 use std::marker::Model;
-
-/// How many ranges a run has at most.
-pub const MOST_RANGES: u32 = 16_384;
 
 /// The lease of each range of a run, ranges counted from 0. Contracts see the list of leases.
 ///
@@ -45,7 +44,7 @@ fn may_grant_out(lease: Lease) -> bool
     ensures { result ≡ may_grant_out lease }
 {
     match lease {
-        Lease::Out { attempt } => attempt < MOST_GRANTS,
+        Lease::Out { attempt } => attempt < MAX_GRANTS,
         _ => false,
     }
 }
@@ -54,14 +53,14 @@ fn may_grant_returned(lease: Lease) -> bool
     ensures { result ≡ may_grant_returned lease }
 {
     match lease {
-        Lease::Returned { attempt } => attempt < MOST_GRANTS,
+        Lease::Returned { attempt } => attempt < MAX_GRANTS,
         _ => false,
     }
 }
 
 // The lowest marked range at or above a range.
 fn lowest_from(marks: &Marks, from: u32) -> Option<u32>
-    requires { length marks.now ≤ MOST_RANGES }
+    requires { length marks.now ≤ MAX_RANGES }
     ensures found { IfSome result (λ range. (range < length marks.now) × IsLowestMarked marks.now from range) }
     ensures none { IfNone result (NoneMarked marks.now from (length marks.now)) }
 {
@@ -73,7 +72,7 @@ impl Leases {
     /// As many fresh leases as there are ranges. It fails for want of memory alone.
     pub fn new(alloc: Global, ranges: u32) -> Result<Leases, AllocError>
         requires some { 0 < ranges }
-        requires few { ranges ≤ MOST_RANGES }
+        requires few { ranges ≤ MAX_RANGES }
         ensures { IfOk result (λ leases. leases ≡ replicate ranges Lease.Fresh) }
     {
         let count = ranges as usize;
@@ -105,7 +104,7 @@ impl Leases {
         Some(range)
     }
 
-    /// The lowest range that was given back after fewer than [`MOST_GRANTS`] grants, None where there is none.
+    /// The lowest range that was given back after fewer than `MAX_GRANTS` grants, None where there is none.
     #[tactic(auto, using(crate::proofs::Lowest::none_passes))]
     pub fn next_returned(&self) -> Option<u32>
         ensures found { IfSome result (λ range. IsLowest may_grant_returned 0 self.now range) }
@@ -117,7 +116,7 @@ impl Leases {
         Some(range)
     }
 
-    /// The lowest range at or above `from` that is out after fewer than [`MOST_GRANTS`] grants, None where
+    /// The lowest range at or above `from` that is out after fewer than `MAX_GRANTS` grants, None where
     /// there is none.
     #[tactic(auto, using(crate::proofs::Lowest::none_passes))]
     pub fn next_out(&self, from: u32) -> Option<u32>

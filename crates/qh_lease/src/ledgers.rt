@@ -1,3 +1,4 @@
+//! The three ledgers that a tally counts with.
 use std::marker::{Brand, PhantomData};
 use std::sync::ledger::Ledger;
 

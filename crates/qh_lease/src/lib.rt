@@ -2,7 +2,7 @@
 //! was acknowledged.
 //!
 //! A change of one lease takes at most a few hundred steps, a search of the lowest range of a kind at most
-//! three times 128, at any number of ranges up to [`MOST_RANGES`]; a call on a tally takes a fixed number.
+//! three times 128, at any number of ranges up to `MAX_RANGES`; a call on a tally takes a fixed number.
 //! Only the constructors of [`Leases`], [`ScriptTimer`] and [`ClockTimer`] take memory.
 //!
 //! It decides nothing: which range is granted when, and what a result is worth, are its callers' affair. It
@@ -26,8 +26,8 @@ mod timer_counts;
 mod totals;
 
 pub use clock_timer::ClockTimer;
-pub use lease::{Lease, MOST_GRANTS};
-pub use leases::{Leases, MOST_RANGES};
+pub use lease::Lease;
+pub use leases::Leases;
 pub use ledgers::{Counted, LEDGER_PARTS, Ledgers, Three};
 pub use script_timer::ScriptTimer;
 pub use share::Share;

@@ -1,3 +1,4 @@
+//! A set of numbers whose lowest member from a number on is found fast.
 ghost use Rattle.std.specs.Prelude.{◌≡◌, ◌<◌, ◌≤◌, ◌+◌, ◌*◌, length, max, replicate, slice_set, IfOk, IfSome, IfNone};
 ghost use Rattle.qh_lease.specs.Marks.{NoneMarked, IsLowestMarked};
 

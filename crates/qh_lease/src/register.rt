@@ -1,3 +1,4 @@
+//! A tally's side of one ledger.
 ghost use Rattle.std.specs.Prelude.{◌≡◌, ◌+◌, ◌-◌, ◌<◌, ◌^◌};
 ghost use Rattle.qh_lease.specs.Register.{IsBlankOf};
 

@@ -1,6 +1,7 @@
+//! A timer that follows a script.
 ghost use Rattle.std.specs.Prelude.{◌≡◌, ◌≤◌, drop, slice_index_or, false, IfOk};
 ghost use Rattle.std.specs.Bool.{OnTrue, OnFalse};
-ghost use Rattle.qh_lease.specs.Count.{Rose};
+ghost use Rattle.qh_counts.specs.Counts.{raised, Rose};
 
 use crate::timer::Timer;
 use crate::timer_counts::TimerCounts;
@@ -27,9 +28,9 @@ impl Model for ScriptTimer {
 }
 
 impl ScriptTimer {
-    /// A timer with these answers. It fails for want of memory alone.
+    /// A timer with these answers, whose counts are 0. It fails for want of memory alone.
     pub fn new(alloc: Global, answers: &[bool]) -> Result<ScriptTimer, AllocError>
-        ensures { IfOk result (λ timer. timer.answers ≡ answers.now) }
+        ensures { IfOk result (λ timer. timer ≡ record { answers = answers.now; granted = 0; due = 0; not_due = 0 }) }
     {
         Ok(ScriptTimer {
             answers: Vec::from_slice(alloc, answers)?,
@@ -62,8 +63,10 @@ impl Timer for ScriptTimer {
     /// Hears of a grant, which changes no answer.
     fn granted(&mut self, _range: u32, _attempt: u32)
         ensures granted { Rose self.old.granted self.new.granted }
+        ensures granted_kept { self.old.granted ≤ self.new.granted }
         ensures due { self.new.due ≡ self.old.due }
         ensures not_due { self.new.not_due ≡ self.old.not_due }
+        ensures once { self.new.granted ≡ raised self.old.granted }
         ensures answers { self.new.answers ≡ self.old.answers }
     {
         self.counts.count_granted();
@@ -74,8 +77,14 @@ impl Timer for ScriptTimer {
         ensures granted { self.new.granted ≡ self.old.granted }
         ensures due { OnTrue result (Rose self.old.due self.new.due) }
         ensures not_due { OnFalse result (Rose self.old.not_due self.new.not_due) }
+        ensures due_stays { OnFalse result (self.new.due ≡ self.old.due) }
+        ensures not_due_stays { OnTrue result (self.new.not_due ≡ self.old.not_due) }
         ensures due_kept { self.old.due ≤ self.new.due }
         ensures not_due_kept { self.old.not_due ≤ self.new.not_due }
+
+        // The counts that rise, exactly.
+        ensures due_once { OnTrue result (self.new.due ≡ raised self.old.due) }
+        ensures not_due_once { OnFalse result (self.new.not_due ≡ raised self.old.not_due) }
         ensures answer { result ≡ slice_index_or self.old.answers 0 false }
         ensures answers { self.new.answers ≡ drop 1 self.old.answers }
     {

@@ -1,3 +1,4 @@
+//! One caller's part of a tally.
 ghost use Rattle.std.specs.Prelude.{◌≡◌};
 
 use crate::ledgers::Ledgers;

@@ -1,3 +1,4 @@
+//! A share's part of one ledger.
 ghost use Rattle.std.specs.Prelude.{◌≡◌};
 
 use crate::ledgers::Counted;

@@ -1,3 +1,4 @@
+//! What callers were granted, gave back and were acknowledged, in total.
 ghost use Rattle.std.specs.Prelude.{◌≡◌, ◌+◌, ◌-◌, ◌<◌, ◌^◌};
 ghost use Rattle.qh_lease.specs.Register.{IsBlankOf};
 ghost use Rattle.qh_lease.specs.Tally.{nothing, together};

@@ -1,10 +1,10 @@
+//! What no contract says: that calls succeed where there is memory, and what a clock does.
 ghost use Rattle.std.specs.Prelude.{◌≡◌};
 ghost use Rattle.qh_lease.specs.Register.{IsBlankOf};
 ghost use Rattle.qh_lease.specs.Tally.{nothing};
 
 use crate::{
-    ClockTimer, Counted, LEDGER_PARTS, Lease, Leases, Ledgers, ScriptTimer, Tally, Three, Timer,
-    Totals,
+    ClockTimer, Counted, LEDGER_PARTS, Leases, Ledgers, ScriptTimer, Tally, Three, Timer, Totals,
 };
 use std::io;
 use std::marker::Brand;
@@ -28,24 +28,59 @@ fn grant_out(leases: &mut Leases, from: u32) -> Option<(u32, u32)> {
     Some((range, attempt))
 }
 
+#[derive(Clone, Copy, Debug)]
+enum Call {
+    GrantFresh,
+    GrantOut(u32),
+    NextReturned,
+    NextOut(u32),
+    // Gives back the lowest range that is out, by this attempt.
+    GiveBack(u32),
+    AcknowledgeFresh,
+}
+
+// Makes one call, and answers the range and the attempt, 0 where there is none.
+fn make(leases: &mut Leases, call: Call) -> Option<(u32, u32)> {
+    match call {
+        Call::GrantFresh => grant_fresh(leases),
+        Call::GrantOut(from) => grant_out(leases, from),
+        Call::NextReturned => Some((leases.next_returned()?, 0)),
+        Call::NextOut(from) => Some((leases.next_out(from)?, 0)),
+        Call::GiveBack(attempt) => {
+            let range = leases.next_out(0)?;
+            if leases.give_back(range, attempt) {
+                Some((range, attempt))
+            } else {
+                None
+            }
+        }
+        Call::AcknowledgeFresh => {
+            let range = leases.next_fresh()?;
+            leases.acknowledge(range);
+            Some((range, 0))
+        }
+    }
+}
+
 #[test]
 fn a_range_goes_through_its_leases(rt: HostRuntime) -> Result<(), Fail> {
     let mut leases = Leases::new(rt.alloc(), 3)?;
-    assert_eq!(rt; grant_fresh(&mut leases), Some((0, 1)));
-    assert_eq!(rt; grant_fresh(&mut leases), Some((1, 1)));
-    assert_eq!(rt; grant_out(&mut leases, 1), Some((1, 2)));
-    assert_eq!(rt; leases.next_returned(), None);
-    let range = leases.next_out(0).ok_or("none is out")?;
-    assert!(rt; !leases.give_back(range, 2));
-    assert!(rt; leases.give_back(range, 1));
-    assert_eq!(rt; leases.state_of(range), Lease::Returned { attempt: 1 });
-    assert_eq!(rt; leases.next_returned(), Some(0));
-    assert_eq!(rt; leases.next_out(0), Some(1));
-    let range = leases.next_fresh().ok_or("none is fresh")?;
-    assert_eq!(rt; range, 2);
-    leases.acknowledge(range);
-    assert_eq!(rt; leases.next_fresh(), None);
-    assert_eq!(rt; grant_out(&mut leases, 2), None);
+    let rows = [
+        (Call::GrantFresh, Some((0, 1))),
+        (Call::GrantFresh, Some((1, 1))),
+        (Call::GrantOut(1), Some((1, 2))),
+        (Call::NextReturned, None),
+        (Call::GiveBack(2), None),
+        (Call::GiveBack(1), Some((0, 1))),
+        (Call::NextReturned, Some((0, 0))),
+        (Call::NextOut(0), Some((1, 0))),
+        (Call::AcknowledgeFresh, Some((2, 0))),
+        (Call::GrantFresh, None),
+        (Call::GrantOut(2), None),
+    ];
+    for (call, want) in rows {
+        assert_eq!(rt; make(&mut leases, call), want, "{call:?}");
+    }
     Ok(())
 }
 

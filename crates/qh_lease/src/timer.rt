@@ -1,6 +1,7 @@
+//! What says that a lease has lasted too long.
 ghost use Rattle.std.specs.Prelude.{◌≡◌, ℕ, ◌≤◌};
 ghost use Rattle.std.specs.Bool.{OnTrue, OnFalse};
-ghost use Rattle.qh_lease.specs.Count.{Rose};
+ghost use Rattle.qh_counts.specs.Counts.{Rose};
 
 /// What says that a lease has lasted too long. It may answer anything.
 ///
@@ -16,17 +17,21 @@ pub trait Timer {
     /// How often it answered "not due".
     ghost not_due_count: { Self → ℕ };
 
-    /// Hears that a range was granted, for the `attempt`-th time.
+    /// Hears that a range was granted, for the `attempt`-th time. The counts of answers stay.
     fn granted(&mut self, range: u32, attempt: u32)
         ensures granted { Rose (granted_count self.old) (granted_count self.new) }
+        ensures granted_kept { granted_count self.old ≤ granted_count self.new }
         ensures due { due_count self.new ≡ due_count self.old }
         ensures not_due { not_due_count self.new ≡ not_due_count self.old };
 
-    /// Whether the lease of a range by this attempt has lasted too long.
+    /// Whether the lease of a range by this attempt has lasted too long. The count of this answer rises,
+    /// and the other two stay.
     fn due(&mut self, range: u32, attempt: u32) -> bool
         ensures granted { granted_count self.new ≡ granted_count self.old }
         ensures due { OnTrue result (Rose (due_count self.old) (due_count self.new)) }
         ensures not_due { OnFalse result (Rose (not_due_count self.old) (not_due_count self.new)) }
+        ensures due_stays { OnFalse result (due_count self.new ≡ due_count self.old) }
+        ensures not_due_stays { OnTrue result (not_due_count self.new ≡ not_due_count self.old) }
         ensures due_kept { due_count self.old ≤ due_count self.new }
         ensures not_due_kept { not_due_count self.old ≤ not_due_count self.new };
 }

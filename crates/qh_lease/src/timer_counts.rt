@@ -1,6 +1,9 @@
+//! The three counts of a timer.
 ghost use Rattle.std.specs.Prelude.{◌≡◌, ◌≤◌};
 ghost use Rattle.std.specs.Bool.{OnTrue, OnFalse};
-ghost use Rattle.qh_lease.specs.Count.{Rose};
+ghost use Rattle.qh_counts.specs.Counts.{raised};
+
+use qh_counts::raise;
 
 // The three counts of a timer.
 #[derive(Debug, Drop)]
@@ -23,25 +26,28 @@ impl TimerCounts {
 
     // Counts a grant.
     pub fn count_granted(&mut self)
-        ensures granted { Rose self.old.granted self.new.granted }
+        ensures granted { self.new.granted ≡ raised self.old.granted }
+        ensures granted_kept { self.old.granted ≤ self.new.granted }
         ensures due { self.new.due ≡ self.old.due }
         ensures not_due { self.new.not_due ≡ self.old.not_due }
     {
-        self.granted = self.granted.saturating_add(1);
+        raise(&mut self.granted);
     }
 
     // Counts an answer.
     pub fn count_answer(&mut self, due: bool)
         ensures granted { self.new.granted ≡ self.old.granted }
-        ensures due { OnTrue due (Rose self.old.due self.new.due) }
-        ensures not_due { OnFalse due (Rose self.old.not_due self.new.not_due) }
+        ensures due { OnTrue due (self.new.due ≡ raised self.old.due) }
+        ensures not_due { OnFalse due (self.new.not_due ≡ raised self.old.not_due) }
+        ensures due_stays { OnFalse due (self.new.due ≡ self.old.due) }
+        ensures not_due_stays { OnTrue due (self.new.not_due ≡ self.old.not_due) }
         ensures due_kept { self.old.due ≤ self.new.due }
         ensures not_due_kept { self.old.not_due ≤ self.new.not_due }
     {
         if due {
-            self.due = self.due.saturating_add(1);
+            raise(&mut self.due);
         } else {
-            self.not_due = self.not_due.saturating_add(1);
+            raise(&mut self.not_due);
         }
     }
 }

@@ -1,3 +1,4 @@
+//! Counts of grants, give-backs and acknowledgements.
 /// How many grants, give-backs and acknowledgements were counted.
 #[derive(Clone, Copy, Debug, PartialEq, Eq)]
 pub struct Totals {
