@@ -1,8 +1,5 @@
 -- Lemmas: the widths of the parts, gates and paths on a half, and the sums of a range.
-pub mod WidthLemmas
-pub mod IndexLemmas
-pub mod GateLemmas
-pub mod HalfRunLemmas
+pub mod SideLemmas
 pub mod ProductLemmas
 pub mod PathLemmas
 pub mod ValueLemmas

@@ -17,9 +17,9 @@ use Rattle.qh_meaning.specs.Limits.{trace_fits, half_fits, are_narrow, path_fits
 use Rattle.qh_meaning.specs.Traces.{kept_where, half_after, HoldsHalf}
 use Rattle.qh_meaning.proofs.TraceLemmas.{half_after_is}
 use Rattle.qh_meaning.proofs.PartLemmas.{local_below}
-use Rattle.qh_range.specs.declared.part.Part.{Part}
-use Rattle.qh_range.specs.declared.part.Part.TheVariants.{One, Two}
-use Rattle.qh_range.specs.Parts.{in_part, width}
+use Rattle.qh_part.specs.declared.part.Part.{Part}
+use Rattle.qh_part.specs.declared.part.Part.TheVariants.{One, Two}
+use Rattle.qh_part.specs.Parts.{in_part, width}
 use Rattle.qh_range.specs.Sides.{at_half, number_at}
 
 kept : (n : ℕ) (b : Bool) (v : ℕ → Omega) (numbers : Option (List Omega)) → HoldsHalf n (kept_where b v) numbers

@@ -13,9 +13,9 @@ use Rattle.qh_plan.specs.Jobs.{Job}
 use Rattle.qh_plan.specs.Verdicts.{added}
 use Rattle.qh_meaning.proofs.PartLemmas.{local_below}
 use Rattle.qh_meaning.proofs.TotalLemmas.{length-added, at_added}
-use Rattle.qh_range.specs.declared.part.Part.{Part}
+use Rattle.qh_part.specs.declared.part.Part.{Part}
 use Rattle.qh_range.specs.declared.side.Side.{Side}
-use Rattle.qh_range.specs.Parts.{in_part}
+use Rattle.qh_part.specs.Parts.{in_part}
 use Rattle.qh_range.specs.Sides.{IsSide, at_half, number_at}
 
 -- of the first i bitstrings the numbers are added, and each passed the test

@@ -1,5 +1,4 @@
--- The definitions that contracts cite: tickets and results, and what an evaluation keeps of a part.
-pub mod Parts
+-- The definitions that contracts cite: tickets and results, steps, and what an evaluation keeps of a part.
 pub mod Results
 pub mod Steps
 pub mod Sides

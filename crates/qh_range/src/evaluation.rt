@@ -4,15 +4,15 @@ ghost use Rattle.std.specs.Arc.{arc_value};
 ghost use Rattle.qh_ring.specs.Numbers.{nothing};
 ghost use Rattle.qh_plan.specs.Jobs.{IsJob, ranges, per_range};
 ghost use Rattle.qh_meaning.specs.Values.{range_value};
-ghost use Rattle.qh_range.specs.Parts.{path_steps};
+ghost use Rattle.qh_part.specs.declared.part.Part.TheVariants as Parts;
 ghost use Rattle.qh_range.specs.Sides.{IsSide};
-ghost use Rattle.qh_range.specs.declared.part.Part.TheVariants as Parts;
+ghost use Rattle.qh_range.specs.Steps.{path_steps};
 
-use crate::part::Part;
 use crate::path::add_path;
 use crate::result::RangeResult;
 use crate::side::{Side, new_side};
 use crate::ticket::Ticket;
+use qh_part::Part;
 use qh_plan::{Job, Sums, Verdict};
 use qh_ring::Omega;
 use qh_steps::Steps;
@@ -51,8 +51,8 @@ fn sum_range<L: Ledger>(
 /// amplitudes, or the least of its paths that is over. A path is over where a coefficient in one of its halves comes to
 /// a magnitude of 2^126, or one of the sixteen products of the coefficients of two half amplitudes to 2^92.
 ///
-/// It takes its memory before the first path, four halves among it. Then each path costs one step, which goes once over
-/// a half, for each gate that acts in that half's part.
+/// Before the first path it takes its memory, four halves among it, and places the gates in both parts. Then each path costs
+/// a copy of a half in each part, and one step, which goes once over a half, for each gate that acts in that half's part.
 pub fn evaluate<L: Ledger>(
     alloc: Global,
     job: &Arc<Job>,

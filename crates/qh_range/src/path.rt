@@ -1,17 +1,17 @@
 //! What one path contributes.
 ghost use Rattle.std.specs.Prelude.{◌≡◌, ◌+◌, ◌<◌, ◌≤◌, All, IsSome, Bool, length, map};
 ghost use Rattle.std.specs.List.{list_all};
+ghost use Rattle.qh_limits.specs.Limits.{coefficient_bits};
 ghost use Rattle.qh_ring.specs.Numbers.{IsWithin, product};
 ghost use Rattle.qh_plan.specs.Jobs.{paths};
 ghost use Rattle.qh_plan.specs.Parts.{local_index};
 ghost use Rattle.qh_plan.specs.Verdicts.{added};
 ghost use Rattle.qh_meaning.specs.Halves.{contribution};
 ghost use Rattle.qh_meaning.specs.Limits.{are_narrow, path_fits};
-ghost use Rattle.qh_range.specs.Parts.{path_steps};
+ghost use Rattle.qh_part.specs.declared.part.Part.TheVariants as Parts;
 ghost use Rattle.qh_range.specs.Sides.{IsSide, number_at};
-ghost use Rattle.qh_range.specs.declared.part.Part.TheVariants as Parts;
+ghost use Rattle.qh_range.specs.Steps.{path_steps};
 
-use crate::part::Part;
 use crate::side::{Side, run_half};
 use qh_plan::Job;
 use qh_ring::{Omega, add_bounded, mul_checked};
@@ -25,7 +25,7 @@ fn add_products(sums: &mut [Omega], job: &Job, one: &Side, two: &Side) -> bool
     requires one_held { IsSome one.now.half.numbers }
     requires two_held { IsSome two.now.half.numbers }
     requires same_length { length sums.old ≡ length job.now.bits }
-    requires bounded { All (IsWithin 126) sums.old }
+    requires bounded { All (IsWithin coefficient_bits) sums.old }
     ensures fits { result ≡ list_all (λ b. are_narrow (number_at Parts.One job.now one.now.half.numbers b) (number_at Parts.Two job.now two.now.half.numbers b)) job.now.bits }
     ensures sums { result ≡ Bool.true → sums.new ≡ added sums.old (map (λ b. product (number_at Parts.One job.now one.now.half.numbers b) (number_at Parts.Two job.now two.now.half.numbers b)) job.now.bits) }
 {
@@ -53,7 +53,7 @@ pub(crate) fn add_path<L: Ledger>(
     requires one { IsSide Parts.One job.now one.old }
     requires two { IsSide Parts.Two job.now two.old }
     requires same_length { length sums.old ≡ length job.now.bits }
-    requires bounded { All (IsWithin 126) sums.old }
+    requires bounded { All (IsWithin coefficient_bits) sums.old }
     ensures fits { result ≡ path_fits job.now path }
     ensures sums { result ≡ Bool.true → sums.new ≡ added sums.old (map (contribution job.now path) job.now.bits) }
     ensures one { IsSide Parts.One job.now one.new }
@@ -61,11 +61,11 @@ pub(crate) fn add_path<L: Ledger>(
     ensures steps { steps.new ≤ steps.old + path_steps job.now }
 {
     let digits = job.digits(path);
-    run_half(&mut one.half, &one.start, job, Part::One, &digits, steps);
+    run_half(one, &digits, steps);
     if one.half.is_over() {
         return false;
     }
-    run_half(&mut two.half, &two.start, job, Part::Two, &digits, steps);
+    run_half(two, &digits, steps);
     if two.half.is_over() {
         return false;
     }

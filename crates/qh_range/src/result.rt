@@ -1,6 +1,7 @@
 //! What an evaluation answers.
 ghost use Rattle.std.specs.Prelude.{◌≡◌, ◌≤◌, ◌<◌};
 ghost use Rattle.std.specs.Arc.{arc_value};
+ghost use Rattle.qh_limits.specs.Limits.{max_grants};
 ghost use Rattle.qh_plan.specs.Jobs.{ranges};
 ghost use Rattle.qh_meaning.specs.Values.{range_value};
 ghost use Rattle.qh_range.specs.Results.{IsResult};
@@ -34,7 +35,7 @@ impl RangeResult {
     /// The result of a range whose value is this.
     pub(crate) fn of_value(job: Arc<Job>, range: u32, attempt: u32, verdict: Verdict) -> RangeResult
         requires below { range < ranges (arc_value job) }
-        requires few { attempt ≤ 16 }
+        requires few { attempt ≤ max_grants }
         requires value { verdict ≡ range_value (arc_value job) range }
         ensures { result ≡ record { job = arc_value job; range = range; attempt = attempt; verdict = verdict } }
     {
@@ -65,7 +66,7 @@ impl RangeResult {
     /// The attempt, 0 to 16.
     pub fn attempt(&self) -> u32
         ensures value { result ≡ self.now.attempt }
-        ensures few { result ≤ 16 }
+        ensures few { result ≤ max_grants }
     {
         self.attempt
     }

@@ -1,5 +1,6 @@
 //! Leave to evaluate a range.
 ghost use Rattle.std.specs.Prelude.{◌≡◌, ◌≤◌};
+ghost use Rattle.qh_limits.specs.Limits.{max_grants};
 
 use std::marker::Model;
 
@@ -12,6 +13,7 @@ pub struct Ticket {
 
 impl Model for Ticket {
     ghost use Rattle.std.specs.Prelude.{◌≤◌};
+    ghost use Rattle.qh_limits.specs.Limits.{max_grants};
     ghost use Rattle.qh_range.specs.Results.{Ticket};
 
     ghost Value = { Ticket };
@@ -20,13 +22,13 @@ impl Model for Ticket {
 
     ghost inverse = { λ t. record { range = t.range; attempt = t.attempt } };
 
-    ghost invariant = { λ t. t.attempt ≤ 16 };
+    ghost invariant = { λ t. t.attempt ≤ max_grants };
 }
 
 impl Ticket {
     /// The ticket for an attempt at a range. It takes no memory.
     pub fn new(range: u32, attempt: u32) -> Ticket
-        requires { attempt ≤ 16 }
+        requires { attempt ≤ max_grants }
         ensures { result ≡ record { range = range; attempt = attempt } }
     {
         Ticket { range, attempt }
@@ -42,7 +44,7 @@ impl Ticket {
     /// The attempt, 0 to 16.
     pub fn attempt(&self) -> u32
         ensures value { result ≡ self.now.attempt }
-        ensures few { result ≤ 16 }
+        ensures few { result ≤ max_grants }
     {
         self.attempt
     }

@@ -1,6 +1,6 @@
 use Rattle.std.proofs.Common.{◌+◌, ◌*◌, ◌≤◌, subst}
 use Rattle.qh_plan.specs.Jobs.{Job, per_range}
-use Rattle.qh_range.specs.Parts.{path_steps}
+use Rattle.qh_range.specs.Steps.{path_steps}
 use Rattle.qh_range.proofs.evaluation.evaluate.Goals as goal
 
 pub returns-clause-steps : goal.returns-clause-steps

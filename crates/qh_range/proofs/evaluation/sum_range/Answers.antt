@@ -5,7 +5,7 @@ use Rattle.qh_ring.specs.Numbers.{IsWithin}
 use Rattle.qh_plan.specs.declared.verdict.Verdict.TheVariants.{Sum}
 use Rattle.qh_plan.specs.Verdicts.{added}
 use Rattle.qh_meaning.specs.Halves.{contribution}
-use Rattle.qh_range.specs.Parts.{path_steps}
+use Rattle.qh_range.specs.Steps.{path_steps}
 use Rattle.qh_range.proofs.ValueLemmas.{IsSummed, summed_none, summed_more, summed_within, written_whole, range_over, range_sum, steps_more}
 use Rattle.qh_range.proofs.evaluation.sum_range.Goals as goal
 

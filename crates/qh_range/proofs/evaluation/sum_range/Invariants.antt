@@ -1,6 +1,6 @@
 use Rattle.std.proofs.Common.{◌+◌, ◌*◌, ◌≤◌}
-use Rattle.qh_range.specs.declared.part.Part.TheVariants as Parts
-use Rattle.qh_range.specs.Parts.{path_steps}
+use Rattle.qh_part.specs.declared.part.Part.TheVariants as Parts
+use Rattle.qh_range.specs.Steps.{path_steps}
 use Rattle.qh_range.specs.Sides.{IsSide}
 use Rattle.qh_range.proofs.ValueLemmas.{IsSummed}
 use Rattle.qh_range.proofs.evaluation.sum_range.Given as goal
