@@ -232,6 +232,8 @@ def check_table():
     for name, square in squares.items():
         root = matrix(TABLE[name][0])
         assert product(root, root) == [[z % ring.modulus for z in row] for row in square], name
+        # the sum of the eigenvalues is 1 + i, which is sqrt(2) w
+        assert root[0][0] == root[1][1] == 1, name
     for name, terms in TERMS.items():
         whole = matrix(TABLE[name][0])
         made = [together(matrix(one), matrix(two)) for one, two in terms]
