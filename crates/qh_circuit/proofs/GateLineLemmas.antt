@@ -14,7 +14,7 @@ use Rattle.qh_gates.specs.Names.{kind_named}
 use Rattle.qh_circuit.specs.GateLines.{word, is_number_below, kind_in, last_place, gate_of}
 use Rattle.qh_circuit.specs.Faults.{first_fault, gate_faults}
 use Rattle.qh_circuit.specs.Reads.{BeginsWithNumber, BeginsWithKind, BeginsWithQubits, have_qubits}
-use Rattle.qh_circuit.proofs.NumberLemmas.{arity_cases}
+use Rattle.qh_gates.proofs.KindLemmas.{one_or_two}
 
 -- the time and the name were read, and these words stand behind them
 pub record IsNamed (words : List (List ℕ)) (time : ℕ) (kind : Kind) (rest : List (List ℕ)) : Type 0 where
@@ -46,7 +46,7 @@ place_is arity (inr e) = omega arith
 last_is : (words rest : List (List ℕ)) (time : ℕ) (kind : Kind) → IsNamed words time kind rest → word (last_place words) words ≡ word (qubits_of kind - 1) rest
 last_is words rest time kind h =
     ap (λ k. word (1 + qubits_of k) words) (kind_is words rest time kind h)
-    ∙ ap (λ place. word place words) (place_is (qubits_of kind) (arity_cases kind))
+    ∙ ap (λ place. word place words) (place_is (qubits_of kind) (one_or_two kind))
     ∙ h.later (qubits_of kind - 1)
 
 qubits_are : (qubits : ℕ) (words rest : List (List ℕ)) (time : ℕ) (kind : Kind) → IsNamed words time kind rest
@@ -70,7 +70,7 @@ same_is qubits words rest behind time q0 q1 kind h read =
     ap (λ k. qubits_of k == 2 && value_of (word 2 words) == value_of (word 3 words)) (kind_is words rest time kind h)
     ∙ ap (λ w. qubits_of kind == 2 && value_of w == value_of (word 3 words)) (h.later 0)
     ∙ ap (λ w. qubits_of kind == 2 && value_of (word 0 rest) == value_of w) (h.later 1)
-    ∙ same_test (qubits_of kind) q0 q1 rest (arity_cases kind) read.first read.last
+    ∙ same_test (qubits_of kind) q0 q1 rest (one_or_two kind) read.first read.last
 
 longer : (place arity words behind : ℕ) → place ≡ 1 + arity → words ≡ 2 + (arity + behind) → 0 < behind → place + 1 < words
 longer place arity words behind e f g = omega arith

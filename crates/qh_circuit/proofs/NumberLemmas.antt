@@ -1,10 +1,8 @@
 -- Numbers and names at the front of a line.
-use Rattle.std.proofs.Common.{◌≡◌, ℕ, ◌<◌, ◌⊎◌, Bool, true, false, ◌&&◌, cond, nat_lt, List, Some, None, refl, sym, ◌∙◌}
+use Rattle.std.proofs.Common.{◌≡◌, ℕ, ◌<◌, Bool, true, false, ◌&&◌, cond, nat_lt, List, Some, None, refl, sym, ◌∙◌}
 use Rattle.std.specs.Option.{is_some}
-use Rattle.std.proofs.lemmas.Bool.{cases_cond, and_parts, ltb-true}
+use Rattle.std.proofs.lemmas.Bool.{and_parts, ltb-true}
 use Rattle.qh_decimal.specs.Decimal.{is_decimal, value_of}
-use Rattle.qh_gates.specs.declared.kind.Kind.{Kind}
-use Rattle.qh_gates.specs.Tables.{qubits_of}
 use Rattle.qh_circuit.specs.GateLines.{is_number_below}
 
 told : {X : Type 0} (b : Bool) (x : X) → is_some (cond b (Some x) None) ≡ b
@@ -17,7 +15,3 @@ below_is limit text = told (is_decimal text && nat_lt (value_of text) limit) (va
 
 pub value_below : (limit : ℕ) (text : List ℕ) → is_number_below limit text ≡ true → value_of text < limit
 value_below limit text h = ltb-true _ _ (and_parts (is_decimal text) (nat_lt (value_of text) limit) (sym (below_is limit text) ∙ h)).1
-
--- a gate has one qubit or two
-pub arity_cases : (kind : Kind) → (qubits_of kind ≡ 1) ⊎ (qubits_of kind ≡ 2)
-arity_cases kind = cases_cond _ 1 2 (qubits_of kind) refl

@@ -18,7 +18,8 @@ use Rattle.qh_circuit.specs.GateLines.{word, is_number_below, gate_of}
 use Rattle.qh_circuit.specs.Faults.{first_fault, gate_faults}
 use Rattle.qh_circuit.specs.Reads.{BeginsWithQubits}
 use Rattle.qh_circuit.specs.Spelling.{spaced_number, second_text, gate_text}
-use Rattle.qh_circuit.proofs.NumberLemmas.{below_is, arity_cases}
+use Rattle.qh_gates.proofs.KindLemmas.{one_or_two}
+use Rattle.qh_circuit.proofs.NumberLemmas.{below_is}
 use Rattle.qh_gates.proofs.NameLemmas.{kind_named-name}
 use Rattle.qh_gates.specs.Names.{kind_named}
 use Rattle.qh_circuit.proofs.OrderLemmas.{some_none}
@@ -138,7 +139,7 @@ two_read arity qubits q0 q1 two below0 below1 few =
     }
 
 pub printed : (qubits : ℕ) (gate : Gate) → Fits qubits gate → qubits ≤ 40 → gate.time < 2 ^ 32 → Printed qubits gate
-printed qubits gate fits few small = by_arity (arity_cases gate.kind)
+printed qubits gate fits few small = by_arity (one_or_two gate.kind)
   where
     time : IsWord (decimal gate.time)
     time = decimal_is_word gate.time (omega arith)
@@ -177,7 +178,7 @@ named_words time kind rest small = record {
 different : (qubits : ℕ) (gate : Gate) → Fits qubits gate → (qubits_of gate.kind == 2 && gate.q0 == gate.q1) ≡ false
 different qubits gate fits = ⊎_elim
     (λ one. and_left _ _ (ne_eqb (qubits_of gate.kind) 2 (λ e. one_two _ one e)))
-    (λ two. and_right _ _ (ne_eqb gate.q0 gate.q1 (λ e. fits.two two (sym e)))) (arity_cases gate.kind)
+    (λ two. and_right _ _ (ne_eqb gate.q0 gate.q1 (λ e. fits.two two (sym e)))) (one_or_two gate.kind)
   where
     one_two : (n : ℕ) → n ≡ 1 → n ≡ 2 → ⊥
     one_two n e f = omega arith

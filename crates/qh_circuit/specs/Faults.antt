@@ -1,6 +1,7 @@
 -- Tables of faults. A row is a fault and the test whether it applies; the first fault that applies is the line's.
 use Rattle.std.specs.Prelude.{ℕ, ◌+◌, ◌^◌, ◌==◌, ◌&&◌, Bool, not, List, [], ◌∷◌, length, nat_lt, nat_le, Option, Some, None, is_none, if◌then◌else◌}
 use Rattle.std.specs.List.{list_any}
+use Rattle.qh_limits.specs.Limits.{max_qubits, max_gates}
 use Rattle.qh_decimal.specs.Decimal.{value_of}
 use Rattle.qh_gates.specs.declared.gate.Gate.{Gate}
 use Rattle.qh_gates.specs.Tables.{qubits_of}
@@ -16,7 +17,7 @@ first_fault (row ∷ rows) = if row.1 then Some row.0 else first_fault rows
 -- the count line: a number from 1 to 40, and nothing behind it
 abbrev pub count_faults : List (List ℕ) → List (Why × Bool)
 count_faults words =
-    (BadCount, not (is_number_below 41 (word 0 words) && nat_le 1 (value_of (word 0 words))))
+    (BadCount, not (is_number_below (max_qubits + 1) (word 0 words) && nat_le 1 (value_of (word 0 words))))
     ∷ (Extra, nat_lt 1 (length words))
     ∷ []
 
@@ -35,5 +36,5 @@ unfoldable pub order_faults : ℕ → List Gate → Gate → List (Why × Bool)
 order_faults max_time before gate =
     (TimeBack, nat_lt gate.time (last_time before))
     ∷ (Overlap, list_any (overlaps gate) before)
-    ∷ (TooManyGates, nat_le gate.time max_time && nat_le 4096 (length (kept max_time before)))
+    ∷ (TooManyGates, nat_le gate.time max_time && nat_le max_gates (length (kept max_time before)))
     ∷ []

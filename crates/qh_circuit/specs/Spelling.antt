@@ -1,13 +1,14 @@
 -- The one spelling of a circuit. Lines end with LF, numbers have no leading zeros, and one space separates words.
 use Rattle.std.specs.Prelude.{ℕ, List, [], ◌∷◌, ◌++◌, ◌==◌, decimal, if◌then◌else◌}
 use Rattle.std.specs.List.{flat_map}
+use Rattle.qh_text.specs.Words.{word_of}
 use Rattle.qh_gates.specs.declared.gate.Gate.{Gate}
 use Rattle.qh_gates.specs.Tables.{name_text, qubits_of}
 use Rattle.qh_gates.specs.Circuits.{Circuit}
 
 -- a space and the number
 abbrev pub spaced_number : ℕ → List ℕ
-spaced_number number = 32 ∷ decimal number
+spaced_number number = word_of (decimal number)
 
 -- the second qubit of a gate that has two
 abbrev pub second_text : Gate → List ℕ

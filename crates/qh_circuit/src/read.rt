@@ -1,6 +1,7 @@
 //! From a text to its circuit.
 
 ghost use Rattle.std.specs.Prelude.{◌≡◌, ◌^◌, ◌<◌, ◌≤◌, ◌&&◌, not, ◌++◌, ◌∷◌, [], List, length, map, nat_le, IfOk, IfErr, OnOk, OnErr, MatchResult, Ok, Some, None};
+ghost use Rattle.qh_limits.specs.Limits.{max_qubits};
 ghost use Rattle.qh_decimal.specs.Decimal.{value_of};
 ghost use Rattle.qh_lines.specs.Words.{words_of};
 ghost use Rattle.qh_gates.specs.declared.gate.Gate.{Gate as GateValue};
@@ -16,11 +17,9 @@ use crate::fault::{CircuitFault, Why};
 use crate::gate_line::{gate_in, next_number};
 use crate::latest::Latest;
 use qh_gates::{Circuit, Gate};
+use qh_limits::{MAX_GATES, MAX_QUBITS};
 use qh_lines::{ContentLines, next_word};
 use std::alloc::{AllocError, Global};
-
-/// The most gates that a circuit keeps.
-const MAX_GATES: usize = 4096;
 
 /// The circuit that a text spells, with its gates up to the greatest time. Gates of a later time are checked as the
 /// others are, and left out. An Err is the first faulty line with its first fault, or want of memory.
@@ -53,7 +52,7 @@ fn count_in(line: &[u8]) -> Result<u32, Why>
         (λ why. first_fault (count_faults (words_of line.now)) ≡ Some why) }
     ensures value { IfOk result (λ qubits. value_of (word 0 (words_of line.now)) ≡ qubits) }
     ensures some { IfOk result (λ qubits. 1 ≤ qubits) }
-    ensures few { IfOk result (λ qubits. qubits ≤ 40) }
+    ensures few { IfOk result (λ qubits. qubits ≤ max_qubits) }
 {
     let Some((qubits, rest)) = next_number(line) else {
         return Err(Why::BadCount);
@@ -61,7 +60,7 @@ fn count_in(line: &[u8]) -> Result<u32, Why>
     if qubits == 0 {
         return Err(Why::BadCount);
     }
-    if qubits > 40 {
+    if qubits > MAX_QUBITS {
         return Err(Why::BadCount);
     }
     match next_word(rest) {
