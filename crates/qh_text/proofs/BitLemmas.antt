@@ -1,8 +1,10 @@
 -- Bitstrings and their indices.
-use Rattle.std.proofs.Common.{◌≡◌, ◌≢◌, ◌==◌, ℕ, zero, suc, inl, inr, ◌+◌, ◌-◌, ◌*◌, ◌/◌, ◌%◌, ◌^◌, ◌<◌, true, List, [], ◌∷◌, length, refl, sym, ap, ◌∙◌, arith}
+use Rattle.std.proofs.Common.{◌≡◌, ◌≢◌, ◌==◌, ℕ, zero, suc, inl, inr, ◌+◌, ◌-◌, ◌*◌, ◌/◌, ◌%◌, ◌^◌, ◌<◌, true, List, [], ◌∷◌, length, get_or, refl, sym, ap, ◌∙◌, arith}
 use Rattle.std.proofs.Math.Path.{ap₂}
 use Rattle.std.proofs.lemmas.Bool.{and_parts, and_from, or_cases, eqb-true}
+use Rattle.std.specs.Int.{bit_at}
 use Rattle.std.proofs.lemmas.Nat.{div-add-mod'}
+use Rattle.std.proofs.lemmas.Nat.Bits.{bit_at_lowest, bit_at-suc}
 use Rattle.std.proofs.lemmas.List.Elements.{All-nil, All-cons}
 use Rattle.qh_text.specs.Bitstrings.{is_bit, is_bitstring, index_of, bits_text}
 use Rattle.qh_text.proofs.CutLemmas.{Without}
@@ -61,6 +63,19 @@ string_of_index (b ∷ s) h =
     ap₂ (λ (c : ℕ) (cs : List ℕ). c ∷ cs)
     (ap (λ d. 48 + d) (low_of (b - 48) (index_of s) bit.0) ∙ bit.1)
     (ap (bits_text (length s)) (high_of (b - 48) (index_of s) bit.0) ∙ string_of_index s p.1)
+
+next_bit : (digit rest place : ℕ) → digit < 2 → bit_at (digit + 2 * rest) (suc place) ≡ bit_at rest place
+next_bit digit rest place small =
+    bit_at-suc (digit + 2 * rest) place ∙ ap (λ n. bit_at n place) (high_of digit rest small)
+
+-- bit q of an index is character q of its string
+pub bits_of_index : (s : List ℕ) (q : ℕ) → is_bitstring s ≡ true → q < length s → bit_at (index_of s) q ≡ get_or s q 0 - 48
+bits_of_index [] q h below = absurd (omega arith)
+bits_of_index (b ∷ s) zero h below =
+    bit_at_lowest ((b - 48) + 2 * index_of s) ∙ low_of (b - 48) (index_of s) (bit_small b (and_parts (is_bit b) (is_bitstring s) h).0).0
+bits_of_index (b ∷ s) (suc q) h below =
+    let p = and_parts (is_bit b) (is_bitstring s) h in
+    next_bit (b - 48) (index_of s) q (bit_small b p.0).0 ∙ bits_of_index s q p.1 (omega arith)
 
 -- an index is named by what it is spelled as
 pub index_of_string : (n x : ℕ) → x < 2 ^ n → index_of (bits_text n x) ≡ x
