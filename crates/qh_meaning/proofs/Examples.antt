@@ -6,12 +6,14 @@ use Rattle.qh_ring.specs.States.{with_bit, applied}
 use Rattle.qh_gates.specs.declared.gate.Gate.{Gate}
 use Rattle.qh_gates.specs.declared.kind.Kind.{Kind}
 use Rattle.qh_gates.specs.declared.kind.Kind.TheVariants.{H, X, Cz, Cnot, Is}
-use Rattle.qh_plan.specs.declared.verdict.Verdict.TheVariants.{Sum}
+use Rattle.qh_plan.specs.declared.verdict.Verdict.{Verdict}
+use Rattle.qh_plan.specs.declared.verdict.Verdict.TheVariants.{Sum, Over}
 use Rattle.qh_plan.specs.Jobs.{Job}
 use Rattle.qh_meaning.specs.Paths.{path_amplitude}
 use Rattle.qh_meaning.specs.Asked.{asked}
 use Rattle.qh_meaning.specs.Limits.{is_within, are_narrow, path_fits}
 use Rattle.qh_meaning.specs.Values.{first_failing, range_value, run_value}
+use Rattle.qh_meaning.specs.Slots.{sum_of_slots, least_below}
 
 -- a gate on one qubit, and one on two
 on : ℕ → Kind → ℕ → Gate
@@ -119,3 +121,19 @@ is_even (suc (suc n)) = is_even n
 first_odd : first_failing 1 is_even ∷ first_failing 4 is_even ∷ [] ≡ None ∷ Some 1 ∷ []
 unfolding is_even
 first_odd = refl
+
+-- a slot that is over adds nothing to the sums, and the least path is kept apart
+mixed_slots : ℕ → Option Verdict
+mixed_slots zero = Some (Sum (unity ∷ []))
+mixed_slots (suc zero) = Some (Over 9)
+mixed_slots (suc (suc zero)) = None
+mixed_slots (suc (suc (suc zero))) = Some (Over 5)
+mixed_slots (suc (suc (suc (suc r)))) = Some (Sum (minus_one ∷ []))
+
+mixed_sums : sum_of_slots mixed_slots 4 0 ∷ sum_of_slots mixed_slots 5 0 ∷ [] ≡ unity ∷ nothing ∷ []
+unfolding mixed_slots minus_one
+mixed_sums = refl
+
+mixed_least : least_below mixed_slots 1 ∷ least_below mixed_slots 3 ∷ least_below mixed_slots 5 ∷ [] ≡ None ∷ Some 9 ∷ Some 5 ∷ []
+unfolding mixed_slots
+mixed_least = refl

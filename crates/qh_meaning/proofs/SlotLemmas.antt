@@ -1,12 +1,10 @@
 -- The slots of a run: a range's value fits, slots that fit stay within the limits, and the total in two parts.
-use Rattle.std.proofs.Common.{◌≡◌, ◌≢◌, ℕ, zero, suc, inl, inr, ◌+◌, ◌-◌, ◌*◌, ◌^◌, ◌<◌, ◌≤◌, List, [], ◌∷◌, length, map, get_or, Option, Some, None, arith, refl, sym, ap, subst, ◌∙◌}
-use Rattle.std.specs.Prelude.{min, unsigned_abs}
+use Rattle.std.proofs.Common.{◌≡◌, ◌≢◌, ℕ, zero, suc, inl, inr, ◌+◌, ◌-◌, ◌*◌, ◌^◌, ◌<◌, ◌≤◌, List, length, map, Option, Some, None, arith, refl, sym, ap, subst, ◌∙◌}
 use Rattle.std.specs.List.{All, range_with_len}
 use Rattle.std.proofs.Math.Path.{ap₂}
-use Rattle.std.proofs.Math.Nat.{min-eq_left, min-eq_right}
 use Rattle.std.proofs.lemmas.Nat.{mul-le}
 use Rattle.std.proofs.lemmas.List.{length-map, get_or_past}
-use Rattle.std.proofs.lemmas.List.Elements.{All-weaker, All-map, All-get_or, All-from_get_or}
+use Rattle.std.proofs.lemmas.List.Elements.{All-weaker, All-map, All-get_or}
 use Rattle.std.proofs.lemmas.List.FromFn.{fill_by_all, length-map-range_with_len, get_or-map-range_with_len}
 use Rattle.std.proofs.lemmas.Bool.{cases_eq, cases_lt}
 use Rattle.qh_ring.specs.declared.number.Omega.{Omega}
@@ -17,7 +15,7 @@ use Rattle.qh_plan.specs.declared.verdict.Verdict.{Verdict}
 use Rattle.qh_plan.specs.declared.verdict.Verdict.TheVariants.{Sum, Over}
 use Rattle.qh_plan.specs.Jobs.{Job, IsJob, per_range, ranges, first_path}
 use Rattle.qh_plan.specs.Ranges.{IsSmall, Fits}
-use Rattle.qh_plan.specs.Verdicts.{added, merged_slot, total_below, total}
+use Rattle.qh_plan.specs.Verdicts.{merged_slot, total_below, total}
 use Rattle.qh_plan.proofs.PlanLemmas.{counted_job}
 use Rattle.qh_meaning.specs.Limits.{path_fits}
 use Rattle.qh_meaning.specs.Values.{over_or_sum, first_over, sums_of, range_value}
