@@ -1,4 +1,3 @@
 pub mod RunLemmas
-mod LineLemmas
 mod SolveLemmas
 mod TotalLemmas

@@ -1,5 +1,6 @@
 -- What the loop over all ranges leaves.
 use Rattle.std.specs.Prelude.{◌≡◌, All}
+use Rattle.qh_limits.specs.Limits.{coefficient_bits}
 use Rattle.qh_ring.specs.Numbers.{IsWithin}
 use Rattle.qh_plan.specs.declared.verdict.Verdict.TheVariants.{Sum, Over as OverPath}
 use Rattle.qh_plan.specs.Jobs.{Job}
@@ -9,5 +10,5 @@ use Rattle.qh_solve.specs.declared.total.Total.TheVariants.{Sums, Over}
 
 -- the run's value: these sums, each within 126 bits, or this path
 abbrev pub IsRunTotal : Job → Total → Type 0
-IsRunTotal j (Sums v) = (run_value j ≡ Sum v.items) × All (IsWithin 126) v.items
+IsRunTotal j (Sums v) = (run_value j ≡ Sum v.items) × All (IsWithin coefficient_bits) v.items
 IsRunTotal j (Over path) = run_value j ≡ OverPath path

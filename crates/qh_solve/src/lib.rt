@@ -5,11 +5,9 @@
 //! interrupted run begins anew.
 #![tactic(auto)]
 
-mod lines;
 mod solving;
 #[cfg(test)]
 mod tests;
 mod total;
 
-pub use lines::lines_of;
 pub use solving::{Solved, solve};

@@ -3,10 +3,9 @@ ghost use Rattle.std.specs.Prelude.{IfOk};
 ghost use Rattle.std.specs.Arc.{arc_value};
 ghost use Rattle.qh_solve.specs.Solved.{IsSolved};
 
-use crate::lines::lines_of;
 use crate::total::{Total, run_total};
 use qh_plan::Job;
-use qh_print::Lines;
+use qh_print::{Lines, lines_of};
 use qh_steps::Steps;
 use std::alloc::{AllocError, Global};
 use std::sync::Arc;

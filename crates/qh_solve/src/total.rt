@@ -1,6 +1,7 @@
 //! The total of a run.
 ghost use Rattle.std.specs.Prelude.{◌≡◌, IfOk, length, All};
 ghost use Rattle.std.specs.Arc.{arc_value};
+ghost use Rattle.qh_limits.specs.Limits.{coefficient_bits};
 ghost use Rattle.qh_ring.specs.Numbers.{IsWithin};
 ghost use Rattle.qh_plan.specs.Verdicts.{added};
 ghost use Rattle.qh_solve.specs.RunTotals.{IsRunTotal};
@@ -25,8 +26,8 @@ pub(crate) enum Total {
 /// Adds numbers to sums, place by place.
 fn add_all(sums: &mut [Omega], more: &[Omega])
     requires even { length sums.old ≡ length more.now }
-    requires sums { All (IsWithin 126) sums.old }
-    requires more { All (IsWithin 126) more.now }
+    requires sums { All (IsWithin coefficient_bits) sums.old }
+    requires more { All (IsWithin coefficient_bits) more.now }
     ensures { sums.new ≡ added sums.old more.now }
 {
     for i in 0..sums.len() {

@@ -2,6 +2,7 @@
 use Rattle.std.specs.Prelude.{ℕ, ◌+◌, ◌&&◌, ◌||◌, Bool, true, not, List, Option, Some, None, is_some, codes, option_map, option_and_then, if◌then◌else◌}
 use Rattle.std.specs.Option.{option_map_or}
 use Rattle.qh_decimal.specs.Decimal.{number_below, value_of}
+use Rattle.qh_limits.specs.Limits.{max_crossing}
 use Rattle.qh_words.specs.Command.{given, is_taken}
 use Rattle.qh_words.specs.Size.{size_of}
 use Rattle.qh_words.specs.declared.options.Options.{Options}
@@ -21,8 +22,8 @@ number_or default value = option_map_or value_of value default
 -- each number is one of its range: the greatest time, the prefix and root gates, the prefix value
 -- and the verbosity
 abbrev pub has_numbers : Values → Bool
-has_numbers value = is_number 4294967295 (value (codes "d")) && is_number 32 (value (codes "p"))
-    && is_number 32 (value (codes "r")) && is_number 4294967295 (value (codes "w"))
+has_numbers value = is_number 4294967295 (value (codes "d")) && is_number max_crossing (value (codes "p"))
+    && is_number max_crossing (value (codes "r")) && is_number 4294967295 (value (codes "w"))
     && is_number 4294967295 (value (codes "v"))
 
 -- a circuit and bitstrings from files, or a generated circuit whose size stands alone

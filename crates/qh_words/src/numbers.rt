@@ -9,6 +9,7 @@ ghost use Rattle.qh_words.specs.Request.{has_numbers, is_number, number_or};
 use crate::command::value;
 use clap::ArgMatches;
 use qh_decimal::number_of;
+use qh_limits::MAX_CROSSING;
 
 /// The numbers that the options give or leave to their defaults.
 #[derive(Clone, Copy)]
@@ -28,8 +29,8 @@ pub fn read_numbers(matches: &ArgMatches<'_>) -> Option<Numbers>
     ensures w { IfSome result (λ n. n.w ≡ option_map value_of (value_in matches.now (codes "w"))) }
 {
     let max_time = read_number(value(matches, "d"), u32::MAX, u32::MAX)?;
-    let p = read_number(value(matches, "p"), 0, 32)?;
-    let r = read_number(value(matches, "r"), 0, 32)?;
+    let p = read_number(value(matches, "p"), 0, MAX_CROSSING as u32)?;
+    let r = read_number(value(matches, "r"), 0, MAX_CROSSING as u32)?;
     let w = read_optional(value(matches, "w"))?;
     read_optional(value(matches, "v"))?;
     Some(Numbers { max_time, p, r, w })
