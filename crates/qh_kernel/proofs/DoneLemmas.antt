@@ -1,15 +1,12 @@
 -- How far a matrix has been applied: the groups below p are done.
-use Rattle.std.proofs.Common.{◌≡◌, ◌≢◌, ℕ, zero, suc, ◌+◌, ◌-◌, ◌*◌, ◌/◌, ◌%◌, ◌^◌, ◌<◌, ◌≤◌, inl, inr, List, [], ◌∷◌, length, set, get_or, arith, refl, sym, ap, subst, ◌∙◌, map}
+use Rattle.std.proofs.Common.{◌≡◌, ◌≢◌, ℕ, ◌+◌, ◌^◌, ◌<◌, ◌≤◌, inl, inr, List, length, get_or, arith, refl, sym, ap, subst, ◌∙◌, map}
 use Rattle.std.proofs.Math.Path.{ap₂}
 use Rattle.std.specs.List.{All, range_with_len}
 use Rattle.std.proofs.lemmas.List.FromFn.{fill_by_all, get_or-map-range_with_len, length-map-range_with_len}
 use Rattle.std.proofs.lemmas.Bool.{cases_eq}
 use Rattle.std.proofs.Math.Nat.{mod-eq_of_lt}
 use Rattle.qh_ring.specs.declared.number.Omega.{Omega}
-use Rattle.qh_ring.specs.declared.matrix.Entry.{Entry}
-use Rattle.qh_ring.specs.declared.matrix.Entry.TheVariants.{Zero}
 use Rattle.qh_ring.specs.Numbers.{product, nothing, IsWithin}
-use Rattle.qh_ring.specs.Matrices.{number_in, number_of}
 use Rattle.qh_ring.specs.States.{sum_below, place_on, at_index, with_bits, applied, applied_list}
 use Rattle.qh_ring.specs.Laws.{AllLess, AreDistinct}
 use Rattle.qh_ring.proofs.SumLemmas.{sum_below_same}

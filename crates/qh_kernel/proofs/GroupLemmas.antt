@@ -1,9 +1,7 @@
 -- The groups as the code numbers them.
-use Rattle.std.proofs.Common.{◌≡◌, ◌≢◌, ℕ, ◌+◌, ◌-◌, ◌*◌, ◌/◌, ◌%◌, ◌^◌, ◌<◌, ◌≤◌, inl, inr, List, [], ◌∷◌, length, get_or, arith, refl, sym, ap, subst, ◌∙◌, min, max}
-use Rattle.std.proofs.Math.Path.{ap₂}
+use Rattle.std.proofs.Common.{◌≡◌, ◌≢◌, ℕ, ◌+◌, ◌-◌, ◌*◌, ◌/◌, ◌^◌, ◌<◌, ◌≤◌, inl, inr, [], ◌∷◌, arith, sym, ap, subst, ◌∙◌, min, max}
 use Rattle.std.proofs.Math.Pow.{pow_mono}
 use Rattle.std.proofs.lemmas.Bool.{cases_lt}
-use Rattle.qh_ring.specs.declared.number.Omega.{Omega}
 use Rattle.qh_kernel.specs.Places.{with_gap}
 use Rattle.qh_kernel.proofs.PlaceLemmas.{IsGroup, HasPlacesOf, AreBoth, rank, rank2, one_group, two_group, pair_places, quad_places, gap_within, rank_within, rank2_within, power_twice}
 use Rattle.qh_kernel.proofs.DoneLemmas.{AreQubits}

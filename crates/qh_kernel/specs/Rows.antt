@@ -1,5 +1,5 @@
 -- The rows of a matrix.
-use Rattle.std.specs.Prelude.{ℕ, nat_le, Bool, true, false, List, count_by}
+use Rattle.std.specs.Prelude.{nat_le, Bool, true, false, List, count_by}
 use Rattle.std.specs.List.{list_all}
 use Rattle.qh_ring.specs.declared.number.Omega.{Omega}
 use Rattle.qh_ring.specs.declared.matrix.Entry.{Entry}

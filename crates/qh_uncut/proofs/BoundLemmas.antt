@@ -1,5 +1,5 @@
 -- How fast the numbers grow: a row of the table has at most two entries.
-use Rattle.std.proofs.Common.{◌≡◌, ◌≢◌, ℕ, zero, suc, ◌+◌, ◌*◌, ◌^◌, ◌<◌, ◌≤◌, inl, inr, Bool, true, false, cond, IsTrue, List, [], ◌∷◌, length, map, take, get_or, unsigned_abs, ◌⊎◌, ◌&&◌, ◌||◌, ◌==◌, arith, refl, sym, ap, subst, ◌∙◌}
+use Rattle.std.proofs.Common.{◌≡◌, ◌≢◌, ℕ, zero, suc, ◌+◌, ◌*◌, ◌^◌, ◌<◌, ◌≤◌, inl, inr, Bool, true, false, cond, IsTrue, List, [], ◌∷◌, length, map, take, get_or, ◌⊎◌, ◌&&◌, ◌||◌, ◌==◌, arith, refl, sym, ap, subst, ◌∙◌}
 use Rattle.std.specs.List.{count_by, list_all}
 use Rattle.std.proofs.lemmas.Int.{ints}
 use Rattle.std.proofs.lemmas.Bool.{or_cases, and_parts, eqb-true}
@@ -9,7 +9,7 @@ use Rattle.std.proofs.Math.Pow.{pow_mono}
 use Rattle.qh_ring.specs.declared.number.Omega.{Omega}
 use Rattle.qh_ring.specs.declared.matrix.Entry.{Entry}
 use Rattle.qh_ring.specs.declared.matrix.Entry.TheVariants.{Zero, Unit as Power}
-use Rattle.qh_ring.specs.Numbers.{IsWithin, sum, product, nothing, unit_power}
+use Rattle.qh_ring.specs.Numbers.{sum, product, nothing}
 use Rattle.qh_ring.specs.Matrices.{number_of, number_in}
 use Rattle.qh_ring.specs.States.{sum_below, place_on, with_bits, applied, ground}
 use Rattle.qh_ring.proofs.NumberLemmas.{turned, turned_by, unit_power_times, nothing_times}

@@ -1,4 +1,4 @@
-use Rattle.std.proofs.Common.{arith, ◌≡◌, ◌<◌, ◌+◌, ◌^◌, ap, subst, sym, [], ◌∷◌, length, length-set}
+use Rattle.std.proofs.Common.{arith, ◌<◌, ◌+◌, ◌^◌, ap, subst, sym, [], ◌∷◌, length, length-set}
 use Rattle.std.proofs.lemmas.List.Elements.{All-set}
 use Rattle.qh_ring.specs.declared.number.Omega.{Omega}
 use Rattle.qh_ring.specs.Numbers.{IsWithin}

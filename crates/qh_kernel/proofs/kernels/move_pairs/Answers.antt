@@ -1,4 +1,4 @@
-use Rattle.std.proofs.Common.{arith, ◌≡◌, ◌<◌, ◌+◌, ◌^◌, ◌∙◌, [], ◌∷◌, length, get_or, slice_index_or, ℕ}
+use Rattle.std.proofs.Common.{arith, ◌<◌, ◌+◌, ◌^◌, [], ◌∷◌, length, slice_index_or, ℕ}
 use Rattle.qh_ring.specs.Matrices.{number_in}
 use Rattle.qh_kernel.proofs.PlaceLemmas.{rank, below_two}
 use Rattle.qh_kernel.proofs.DoneLemmas.{done_all}

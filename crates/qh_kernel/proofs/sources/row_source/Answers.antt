@@ -1,4 +1,4 @@
-use Rattle.std.proofs.Common.{arith, ◌≡◌, ◌∙◌, ap, rules}
+use Rattle.std.proofs.Common.{arith, ◌∙◌, ap}
 use Rattle.qh_ring.specs.Numbers.{product, unit_power}
 use Rattle.qh_ring.proofs.NumberLemmas.{one_times}
 use Rattle.qh_kernel.proofs.RowLemmas.{row_sum_one, row_sum_none, unit_below}

@@ -1,4 +1,4 @@
-use Rattle.std.proofs.Common.{◌≡◌, ◌^◌, ◌∙◌, ℕ, sym, ap, subst, length}
+use Rattle.std.proofs.Common.{◌^◌, ◌∙◌, ℕ, sym, ap, subst, length}
 use Rattle.std.specs.List.{All}
 use Rattle.qh_ring.specs.Numbers.{IsWithin}
 use Rattle.qh_ring.specs.States.{listed, ground}

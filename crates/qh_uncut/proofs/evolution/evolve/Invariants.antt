@@ -1,4 +1,3 @@
-use Rattle.std.proofs.Common.{◌≡◌}
 use Rattle.qh_uncut.proofs.EvolutionLemmas.{IsRunning}
 use Rattle.qh_uncut.proofs.evolution.evolve.Given as goal
 
