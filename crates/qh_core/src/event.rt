@@ -1,3 +1,4 @@
+//! What may happen to a run.
 use crate::kept::Kept;
 
 /// What may happen to the ranges of a run and to their slots in the journal.
@@ -7,7 +8,7 @@ use crate::kept::Kept;
 #[derive(Debug, Drop)]
 pub enum Event {
     /// A range is granted to a caller: legal while the machine runs, where the range is fresh, or out or
-    /// returned after fewer than 16 grants. It is then out by the next attempt, the first being 1.
+    /// returned after fewer than `MAX_GRANTS` grants. It is then out by the next attempt, the first being 1.
     Grant { range: u32 },
     /// A caller gives a range back: legal while the machine runs, where the range is out by this very
     /// attempt. It is then returned.

@@ -1,3 +1,4 @@
+//! The ranges whose written gates a crash keeps.
 ghost use Rattle.std.specs.Prelude.{◌≡◌, IfOk};
 
 use std::alloc::{AllocError, Global};

@@ -1,3 +1,4 @@
+//! What an event does to the leases.
 ghost use Rattle.std.specs.Prelude.{◌≡◌, length, map};
 ghost use Rattle.qh_core.specs.Machine.{found_lease};
 ghost use Rattle.qh_lease.specs.declared.lease.Lease.TheVariants.{Fresh};

@@ -1,3 +1,4 @@
+//! The machine: its state and its one step.
 ghost use Rattle.std.specs.Prelude.{◌≡◌, ◌<◌, ◌≤◌, length, IfOk};
 ghost use Rattle.qh_core.specs.Machine.{lease_of, slot_of, runs, runs_for, start, answer_to, next};
 
@@ -7,7 +8,8 @@ use crate::leases::{find, forget};
 use crate::moved::Moved;
 use crate::slot_state::SlotState;
 use crate::slots::{are_pending, keep, sync_all};
-use qh_lease::{Lease, MOST_RANGES};
+use qh_lease::Lease;
+use qh_limits::MAX_RANGES;
 use std::alloc::{AllocError, Global};
 use std::marker::Model;
 
@@ -35,7 +37,7 @@ impl Machine {
     /// A machine that is up, with fresh leases and closed slots. It fails for want of memory alone.
     pub fn new(alloc: Global, ranges: u32) -> Result<Machine, AllocError>
         requires some { 0 < ranges }
-        requires few { ranges ≤ MOST_RANGES }
+        requires few { ranges ≤ MAX_RANGES }
         ensures { IfOk result (λ machine. machine ≡ start ranges) }
     {
         Ok(Machine {

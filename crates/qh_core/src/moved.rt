@@ -1,3 +1,4 @@
+//! What the machine answers.
 /// What the machine answers to an event.
 #[derive(Clone, Copy, Debug, PartialEq, Eq)]
 pub enum Moved {

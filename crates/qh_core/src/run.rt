@@ -1,10 +1,11 @@
+//! A run of events from the start.
 ghost use Rattle.std.specs.Prelude.{◌≡◌, ℕ, ◌<◌, ◌≤◌, IfOk, IfSome, length, slice_get, take};
 ghost use Rattle.qh_core.specs.Machine.{start, after};
 ghost use Rattle.qh_core.specs.Law.{AckedAreStored, StoredStay, KeepsExactly, acknowledgements};
 
 use crate::event::Event;
 use crate::machine::Machine;
-use qh_lease::MOST_RANGES;
+use qh_limits::MAX_RANGES;
 use std::alloc::{AllocError, Global};
 
 /// The machine after a list of events from the start. It fails for want of memory alone.
@@ -12,7 +13,7 @@ use std::alloc::{AllocError, Global};
 /// The clauses from `acked` on are the law of leases, over every list of events.
 pub fn run_events(alloc: Global, ranges: u32, events: &[Event]) -> Result<Machine, AllocError>
     requires some { 0 < ranges }
-    requires few { ranges ≤ MOST_RANGES }
+    requires few { ranges ≤ MAX_RANGES }
     ensures after { IfOk result (λ machine. machine ≡ after ranges events.now) }
     ensures ranges { IfOk result (λ machine. length machine.leases ≡ ranges) }
 

@@ -1,3 +1,4 @@
+//! How far a slot is written.
 /// How far a range's slot is written in the journal.
 #[derive(Clone, Copy, Debug, PartialEq, Eq)]
 pub enum SlotState {

@@ -1,3 +1,4 @@
+//! What an event does to the slots.
 ghost use Rattle.std.specs.Prelude.{◌≡◌, ◌<◌, length, map, fold, slice_set, All};
 ghost use Rattle.qh_core.specs.Machine.{slot_at, is_gate_written, are_pending, synced, survived, slots_after};
 ghost use Rattle.qh_core.specs.declared.slot_state.SlotState.TheVariants.{Stored};

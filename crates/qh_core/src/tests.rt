@@ -1,3 +1,4 @@
+//! What no contract says: that calls succeed where there is memory, and hand-made lists of events.
 use crate::{Event, Kept, Machine, Moved, SlotState, run_events};
 use qh_lease::Lease;
 use std::alloc::{AllocError, Global};

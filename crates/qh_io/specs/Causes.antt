@@ -1,13 +1,6 @@
 -- When a fault may be answered.
-use Rattle.std.specs.Prelude.{◌≤◌, ◌+◌, ◌-◌, ◌^◌, ℕ, min, Result, OnErr}
-
--- one more, by a count of 64 bits that stays at its last value
-abbrev pub one_more : ℕ → ℕ
-one_more count = min (count + 1) (2 ^ 64 - 1)
-
--- the count rose, or stands at its last value
-abbrev pub Rose : ℕ → ℕ → Type 0
-Rose before now = one_more before ≤ now
+use Rattle.std.specs.Prelude.{◌≤◌, ℕ, Result, OnErr}
+pub use Rattle.qh_counts.specs.Counts.{Rose}
 
 -- the count of faults did not fall, and rose where the call failed
 pub record HasCause {T E : Type 0} (before now : ℕ) (result : Result T E) : Type 0 where

@@ -1,9 +1,10 @@
-// A sink over standard error.
+//! A sink over standard error.
 ghost use Rattle.std.specs.Prelude.{◌≡◌, ◌≤◌, ◌<◌, ℕ, List, None, IfOk, MatchResult, length, take};
 ghost use Rattle.std.specs.Str.Lossy.{utf8_valid_len};
 ghost use Rattle.std.specs.Io.{WritesAtMost};
 ghost use Rattle.std.specs.Io.KnownBytes.{WriteAppends};
-ghost use Rattle.qh_io.specs.Causes.{HasCause, one_more};
+ghost use Rattle.qh_counts.specs.Counts.{raised};
+ghost use Rattle.qh_io.specs.Causes.{HasCause};
 
 use crate::faults::{Failed, failure};
 use crate::writing::Sink;
@@ -71,7 +72,7 @@ impl<'r, R: Eprint> Sink for ErrSink<'r, R> {
         ensures bytes { WriteAppends None None result piece.now }
         ensures cause { HasCause self.old self.new result }
         ensures text { IfOk result (λ n. n ≡ utf8_valid_len piece.now) }
-        ensures count { MatchResult result (λ _. self.new ≡ self.old) (λ _. self.new ≡ one_more self.old) }
+        ensures count { MatchResult result (λ _. self.new ≡ self.old) (λ _. self.new ≡ raised self.old) }
     {
         match self.write_some(piece) {
             Ok(count) if count > 0 => Ok(count),

@@ -1,7 +1,9 @@
-// What a refused call answers.
+//! What a refused call answers.
 ghost use Rattle.std.specs.Prelude.{◌≡◌, ◌≤◌, ◌↔◌, IsTrue};
 ghost use Rattle.std.specs.List.{Contains};
-ghost use Rattle.qh_io.specs.Causes.{one_more};
+ghost use Rattle.qh_counts.specs.Counts.{raised};
+
+use qh_counts::raise;
 
 /// A call on a source or a sink failed, and its count of faults rose.
 #[derive(Clone, Copy, PartialEq, Eq, Debug)]
@@ -26,18 +28,18 @@ pub struct WriteFault {
 
 // Counts a fault.
 pub(crate) fn failure(faults: &mut u64) -> Failed
-    ensures count { faults.new ≡ one_more faults.old }
+    ensures count { faults.new ≡ raised faults.old }
     ensures later { faults.old ≤ faults.new }
 {
-    *faults = faults.saturating_add(1);
+    raise(faults);
     Failed
 }
 
 // Counts a call, and tells whether it is one of those that are to fail.
 pub(crate) fn is_to_fail(calls: &mut u64, fails: &[u64]) -> bool
-    ensures count { calls.new ≡ one_more calls.old }
+    ensures count { calls.new ≡ raised calls.old }
     ensures named { IsTrue result ↔ Contains fails.now calls.new }
 {
-    *calls = calls.saturating_add(1);
+    raise(calls);
     fails.contains(calls)
 }

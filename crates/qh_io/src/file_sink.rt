@@ -1,10 +1,12 @@
-// A sink over a file or standard output.
-ghost use Rattle.std.specs.Prelude.{◌≡◌, ◌≤◌, ◌<◌, ℕ, List, None, IfOk, MatchResult, length};
+//! A sink over a file or standard output.
+ghost use Rattle.std.specs.Prelude.{◌≡◌, ◌≤◌, ◌<◌, ℕ, List, None, IsSome, IfOk, MatchResult, length, take};
 ghost use Rattle.std.specs.Option.{option_map};
 ghost use Rattle.std.specs.String.{string_bytes};
 ghost use Rattle.std.specs.Io.{WritesAtMost};
 ghost use Rattle.std.specs.Io.KnownBytes.{WriteAppends};
-ghost use Rattle.qh_io.specs.Causes.{HasCause, one_more};
+ghost use Rattle.qh_counts.specs.Counts.{raised};
+ghost use Rattle.qh_io.specs.Causes.{HasCause};
+ghost use Rattle.qh_io.specs.Edge.{Goes, Takes};
 
 use crate::faults::{Failed, failure};
 use crate::writing::Sink;
@@ -30,15 +32,15 @@ impl<'r, R: Files + Print> Model for FileSink<'r, R> {
     ghost use Rattle.std.specs.String.{string_bytes};
     ghost use Rattle.qh_io.specs.Edge.{Handle};
 
-    ghost Value = { Handle };
+    ghost Value = { Handle R.File };
 
-    ghost view = { λ s. record { path = option_map string_bytes s.path; faults = s.faults } };
+    ghost view = { λ s. record { path = option_map string_bytes s.path; file = s.file; faults = s.faults } };
 }
 
 impl<'r, R: Files + Print> FileSink<'r, R> {
     /// The file of this path, or standard output where there is none.
     pub fn new(rt: &'r R, path: Option<String>) -> FileSink<'r, R>
-        ensures { result ≡ record { path = option_map string_bytes path; faults = 0 } }
+        ensures { result ≡ record { path = option_map string_bytes path; file = None; faults = 0 } }
     {
         FileSink {
             rt,
@@ -51,7 +53,9 @@ impl<'r, R: Files + Print> FileSink<'r, R> {
     // Writes to the file, after opening it where it is not open yet, or to standard output.
     fn write_some(&mut self, piece: &[u8]) -> io::Result<usize>
         ensures bound { WritesAtMost result piece.now }
-        ensures same { self.new ≡ self.old }
+        ensures took { IsSome self.old.path → IfOk result (λ n. Goes self.old.file self.new.file (Takes R.File.contents (take n piece.now))) }
+        ensures path { self.new.path ≡ self.old.path }
+        ensures faults { self.new.faults ≡ self.old.faults }
     {
         let Some(path) = &self.path else {
             let mut out = io::writer(self.rt);
@@ -84,7 +88,8 @@ impl<'r, R: Files + Print> Sink for FileSink<'r, R> {
         ensures some { IfOk result (λ n. 0 < n) }
         ensures bytes { WriteAppends None None result piece.now }
         ensures cause { HasCause self.old.faults self.new.faults result }
-        ensures count { MatchResult result (λ _. self.new.faults ≡ self.old.faults) (λ _. self.new.faults ≡ one_more self.old.faults) }
+        ensures took { IsSome self.old.path → IfOk result (λ n. Goes self.old.file self.new.file (Takes R.File.contents (take n piece.now))) }
+        ensures count { MatchResult result (λ _. self.new.faults ≡ self.old.faults) (λ _. self.new.faults ≡ raised self.old.faults) }
         ensures same { self.new.path ≡ self.old.path }
     {
         match self.write_some(piece) {

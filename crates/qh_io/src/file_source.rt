@@ -1,10 +1,12 @@
-// A source over a file.
-ghost use Rattle.std.specs.Prelude.{◌≡◌, ◌≤◌, ◌<◌, ℕ, List, None, IsNone, IsErr, MatchResult, length};
+//! A source over a file.
+ghost use Rattle.std.specs.Prelude.{◌≡◌, ◌≤◌, ◌<◌, ℕ, List, None, IsNone, IsErr, IfOk, MatchResult, length, take};
 ghost use Rattle.std.specs.Option.{option_map};
 ghost use Rattle.std.specs.String.{string_bytes};
 ghost use Rattle.std.specs.Io.{ReadsAtMost};
 ghost use Rattle.std.specs.Io.KnownBytes.{ReadConsumes};
-ghost use Rattle.qh_io.specs.Causes.{HasCause, one_more};
+ghost use Rattle.qh_counts.specs.Counts.{raised};
+ghost use Rattle.qh_io.specs.Causes.{HasCause};
+ghost use Rattle.qh_io.specs.Edge.{Goes, Gives};
 
 use crate::faults::{Failed, failure};
 use crate::reading::Source;
@@ -28,15 +30,15 @@ impl<'r, R: Files> Model for FileSource<'r, R> {
     ghost use Rattle.std.specs.String.{string_bytes};
     ghost use Rattle.qh_io.specs.Edge.{Handle};
 
-    ghost Value = { Handle };
+    ghost Value = { Handle R.File };
 
-    ghost view = { λ s. record { path = option_map string_bytes s.path; faults = s.faults } };
+    ghost view = { λ s. record { path = option_map string_bytes s.path; file = s.file; faults = s.faults } };
 }
 
 impl<'r, R: Files> FileSource<'r, R> {
     /// The file of this path. Without a path every call fails.
     pub fn new(rt: &'r R, path: Option<String>) -> FileSource<'r, R>
-        ensures { result ≡ record { path = option_map string_bytes path; faults = 0 } }
+        ensures { result ≡ record { path = option_map string_bytes path; file = None; faults = 0 } }
     {
         FileSource {
             rt,
@@ -48,9 +50,12 @@ impl<'r, R: Files> FileSource<'r, R> {
 
     // Reads from the file, after opening it where it is not open yet.
     fn read_some(&mut self, buf: &mut [u8]) -> io::Result<usize>
+        requires { 0 < length buf.old }
         ensures bound { ReadsAtMost result buf.new }
         ensures nameless { IsNone self.old.path → IsErr result }
-        ensures same { self.new ≡ self.old }
+        ensures gave { IfOk result (λ n. Goes self.old.file self.new.file (Gives R.File.remaining (take n buf.new))) }
+        ensures path { self.new.path ≡ self.old.path }
+        ensures faults { self.new.faults ≡ self.old.faults }
     {
         let Some(path) = &self.path else {
             return Err(io::Error::from(io::ErrorKind::NotFound));
@@ -76,7 +81,8 @@ impl<'r, R: Files> Source for FileSource<'r, R> {
         ensures bytes { ReadConsumes None None result buf.new }
         ensures cause { HasCause self.old.faults self.new.faults result }
         ensures nameless { IsNone self.old.path → IsErr result }
-        ensures count { MatchResult result (λ _. self.new.faults ≡ self.old.faults) (λ _. self.new.faults ≡ one_more self.old.faults) }
+        ensures gave { IfOk result (λ n. Goes self.old.file self.new.file (Gives R.File.remaining (take n buf.new))) }
+        ensures count { MatchResult result (λ _. self.new.faults ≡ self.old.faults) (λ _. self.new.faults ≡ raised self.old.faults) }
         ensures same { self.new.path ≡ self.old.path }
     {
         match self.read_some(buf) {

@@ -1,9 +1,10 @@
-// A sink over memory.
+//! A sink over memory.
 ghost use Rattle.std.specs.Prelude.{◌≡◌, ◌≤◌, ◌<◌, ◌+◌, ◌-◌, ◌↔◌, ◌⊎◌, ℕ, List, [], Some, IfOk, IsErr, MatchResult, length, min};
 ghost use Rattle.std.specs.Io.{WritesAtMost};
 ghost use Rattle.std.specs.Io.KnownBytes.{WriteAppends};
 ghost use Rattle.std.specs.List.{Contains};
-ghost use Rattle.qh_io.specs.Causes.{HasCause, one_more};
+ghost use Rattle.qh_counts.specs.Counts.{raised};
+ghost use Rattle.qh_io.specs.Causes.{HasCause};
 
 use crate::faults::{Failed, failure, is_to_fail};
 use crate::writing::Sink;
@@ -75,11 +76,11 @@ impl Sink for MemSink {
         ensures cause { HasCause self.old.faults self.new.faults result }
 
         // Just the chosen calls fail, and those with no room. Another takes as much as it may.
-        ensures chosen { IsErr result ↔ (Contains self.old.fails (one_more self.old.calls) ⊎ (self.old.room ≤ length self.old.held)) }
+        ensures chosen { IsErr result ↔ (Contains self.old.fails (raised self.old.calls) ⊎ (self.old.room ≤ length self.old.held)) }
         ensures taken { IfOk result (λ n. n ≡ min (min self.old.piece (length piece.now)) (self.old.room - length self.old.held)) }
 
-        ensures calls { self.new.calls ≡ one_more self.old.calls }
-        ensures count { MatchResult result (λ _. self.new.faults ≡ self.old.faults) (λ _. self.new.faults ≡ one_more self.old.faults) }
+        ensures calls { self.new.calls ≡ raised self.old.calls }
+        ensures count { MatchResult result (λ _. self.new.faults ≡ self.old.faults) (λ _. self.new.faults ≡ raised self.old.faults) }
         ensures same { (self.new.room ≡ self.old.room) × (self.new.piece ≡ self.old.piece) × (self.new.fails ≡ self.old.fails) }
     {
         if is_to_fail(&mut self.calls, &self.fails) {

@@ -1,9 +1,10 @@
-// A source over memory.
+//! A source over memory.
 ghost use Rattle.std.specs.Prelude.{◌≡◌, ◌≤◌, ◌<◌, ◌+◌, ◌↔◌, ℕ, List, Some, IfOk, IsErr, MatchResult, length, min};
 ghost use Rattle.std.specs.Io.{ReadsAtMost};
 ghost use Rattle.std.specs.Io.KnownBytes.{ReadConsumes};
 ghost use Rattle.std.specs.List.{Contains};
-ghost use Rattle.qh_io.specs.Causes.{HasCause, one_more};
+ghost use Rattle.qh_counts.specs.Counts.{raised};
+ghost use Rattle.qh_io.specs.Causes.{HasCause};
 
 use crate::faults::{Failed, failure, is_to_fail};
 use crate::reading::Source;
@@ -66,11 +67,11 @@ impl Source for MemSource {
         ensures cause { HasCause self.old.faults self.new.faults result }
 
         // Just the chosen calls fail, and another gives as much as it may.
-        ensures chosen { IsErr result ↔ Contains self.old.fails (one_more self.old.calls) }
+        ensures chosen { IsErr result ↔ Contains self.old.fails (raised self.old.calls) }
         ensures piece { IfOk result (λ n. n ≡ min (min self.old.piece (length buf.new)) (length self.old.left)) }
 
-        ensures calls { self.new.calls ≡ one_more self.old.calls }
-        ensures count { MatchResult result (λ _. self.new.faults ≡ self.old.faults) (λ _. self.new.faults ≡ one_more self.old.faults) }
+        ensures calls { self.new.calls ≡ raised self.old.calls }
+        ensures count { MatchResult result (λ _. self.new.faults ≡ self.old.faults) (λ _. self.new.faults ≡ raised self.old.faults) }
         ensures same { (self.new.piece ≡ self.old.piece) × (self.new.fails ≡ self.old.fails) }
     {
         if is_to_fail(&mut self.calls, &self.fails) {

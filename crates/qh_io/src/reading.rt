@@ -1,8 +1,10 @@
-// Where bytes come from.
-ghost use Rattle.std.specs.Prelude.{◌≡◌, ◌≤◌, ◌<◌, ◌^◌, ◌↔◌, ℕ, List, Option, IfOk, length};
+//! Where bytes come from.
+ghost use Rattle.std.specs.Prelude.{◌≡◌, ◌≤◌, ◌<◌, ◌↔◌, ℕ, List, Option, IfOk, length};
 ghost use Rattle.std.specs.Io.{ReadsAtMost};
 ghost use Rattle.std.specs.Io.KnownBytes.{ReadConsumes, Consumes};
-ghost use Rattle.qh_io.specs.Causes.{HasCause, Rose};
+ghost use Rattle.qh_limits.specs.Limits.{max_circuit_bytes};
+ghost use Rattle.qh_counts.specs.Counts.{Rose};
+ghost use Rattle.qh_io.specs.Causes.{HasCause};
 ghost use Rattle.qh_io.specs.Reading.{IsReadWhole};
 
 use crate::faults::{Failed, ReadAllFault};
@@ -25,7 +27,7 @@ pub trait Source {
         ensures cause { HasCause (faults self.old) (faults self.new) result };
 }
 
-/// All bytes up to the end of the source, of which there may be `limit`.
+/// All bytes up to the end of the source, of which there may be `limit`: at most as many as a circuit text may have.
 ///
 /// By every answer, what was taken from the source is gone. The last read that it makes comes after at most `limit`
 /// bytes. A `Memory` answer comes for want of memory alone.
@@ -34,7 +36,7 @@ pub fn read_all<S: Source>(
     source: &mut S,
     limit: usize,
 ) -> Result<Vec<u8>, ReadAllFault>
-    requires { limit ≤ 2 ^ 20 }
+    requires { limit ≤ max_circuit_bytes }
     ensures later { S.faults source.old ≤ S.faults source.new }
     ensures fault { result ≡ Err ReadAllFault.Fault → Rose (S.faults source.old) (S.faults source.new) }
 

@@ -1,11 +1,12 @@
-// What no clause can say: that the calls succeed with memory at hand, and what becomes of real files.
+//! What no clause can say: that the calls succeed with memory at hand, and what becomes of real files.
 use crate::{
     ErrSink, Failed, FileSink, FileSource, MemSink, MemSource, ReadAllFault, Sink, Source,
     WriteFault, read_all, write_all_of,
 };
-use std::fs;
+use std::os::fd::AsRawFd;
 use std::process::Abort;
 use std::test::Fail;
+use std::{fs, io};
 
 // Reads `text` in pieces, where these calls fail, and compares the bytes or the refusal.
 fn expect_read(
@@ -98,17 +99,76 @@ fn a_file_is_replaced_at_the_first_write(rt: HostRuntime) -> Result<(), Fail> {
     Ok(())
 }
 
-#[test]
-fn what_cannot_be_opened_fails(rt: HostRuntime) -> Result<(), Fail> {
+#[derive(Clone, Copy, Debug)]
+enum Edge {
+    Source,
+    Sink,
+}
+
+// Makes two calls on the file of this path: reads of four bytes, or writes of one.
+fn call_twice(
+    rt: &HostRuntime,
+    edge: Edge,
+    path: &str,
+) -> Result<[Result<usize, Failed>; 2], Fail> {
+    let path = Some(String::from_str(rt.alloc(), path)?);
     let mut buf = [0u8; 4];
-    let mut nameless = FileSource::new(&rt, None);
-    assert_eq!(rt; nameless.read(&mut buf), Err(Failed));
-    for path in ["qh_io_no_such_folder/file", ".", ""] {
-        let mut source = FileSource::new(&rt, Some(String::from_str(rt.alloc(), path)?));
-        assert_eq!(rt; source.read(&mut buf), Err(Failed), "{path}");
-        let mut sink = FileSink::new(&rt, Some(String::from_str(rt.alloc(), path)?));
-        assert_eq!(rt; sink.write(b"x"), Err(Failed), "{path}");
+    match edge {
+        Edge::Source => {
+            let mut source = FileSource::new(rt, path);
+            Ok([source.read(&mut buf), source.read(&mut buf)])
+        }
+        Edge::Sink => {
+            let mut sink = FileSink::new(rt, path);
+            Ok([sink.write(b"x"), sink.write(b"x")])
+        }
     }
+}
+
+// What the system refuses, it refuses whoever asks, the user root too.
+#[test]
+fn what_the_system_refuses_fails(rt: HostRuntime) -> Result<(), Fail> {
+    let rows = [
+        (Edge::Source, "qh_io_no_such_file", Err(Failed)),
+        (Edge::Source, "qh_io_no_such_folder/file", Err(Failed)),
+        (Edge::Source, "", Err(Failed)),
+        (Edge::Source, "a\0b", Err(Failed)),
+        // A directory can be opened, and this process's memory has nothing at 0: no read succeeds.
+        (Edge::Source, ".", Err(Failed)),
+        (Edge::Source, "/proc/self/mem", Err(Failed)),
+        // This file may be written alone.
+        (Edge::Source, "/proc/self/clear_refs", Err(Failed)),
+        (Edge::Source, "/dev/null", Ok(0)),
+        (Edge::Sink, "qh_io_no_such_folder/file", Err(Failed)),
+        (Edge::Sink, "", Err(Failed)),
+        (Edge::Sink, "a\0b", Err(Failed)),
+        (Edge::Sink, ".", Err(Failed)),
+        // This device can be opened, and is full.
+        (Edge::Sink, "/dev/full", Err(Failed)),
+        // This file may be read alone.
+        (Edge::Sink, "/proc/version", Err(Failed)),
+        (Edge::Sink, "/dev/null", Ok(1)),
+    ];
+    for (edge, path, want) in rows {
+        assert_eq!(rt;
+            call_twice(&rt, edge, path)?,
+            [want, want],
+            "{edge:?} {path}"
+        );
+    }
+    let mut nameless = FileSource::new(&rt, None);
+    assert_eq!(rt; nameless.read(&mut [0u8; 4]), Err(Failed));
+    Ok(())
+}
+
+#[test]
+fn a_closed_pipe_fails(rt: HostRuntime) -> Result<(), Fail> {
+    let (reader, writer) = io::pipe(&rt)?;
+    let path = format!(in rt.alloc(); "/proc/self/fd/{}", writer.as_raw_fd())?;
+    let mut sink = FileSink::new(&rt, Some(path));
+    assert_eq!(rt; sink.write(b"x"), Ok(1));
+    drop(reader);
+    assert_eq!(rt; sink.write(b"x"), Err(Failed));
     Ok(())
 }
 
