@@ -1,10 +1,11 @@
 -- What causes exclude and give.
-use Rattle.std.proofs.Common.{◌≡◌, ℕ, ◌^◌, ◌<◌, ◌≤◌, ◌≢◌, ◌⊎◌, inl, inr, List, ◌++◌, length, Some, None, Ok, Err, Result, IfSome, IsSomeAnd, refl, sym, ap, subst, ◌∙◌, arith, append-nil}
+use Rattle.std.proofs.Common.{◌≡◌, ℕ, ◌^◌, ◌<◌, ◌≤◌, ◌≢◌, ◌⊎◌, inl, inr, List, ◌++◌, length, map, Some, None, Ok, Err, Result, IfSome, IsSomeAnd, refl, sym, ap, subst, ◌∙◌, arith, append-nil}
 use Rattle.std.proofs.lemmas.List.{ext_get_or}
 use Rattle.std.specs.declared.option.Option.{Option}
 use Rattle.qh_gates.specs.Circuits.{Circuit}
 use Rattle.qh_circuit.specs.Texts.{FaultyLine}
 use Rattle.qh_bits.specs.Texts.{bits_of}
+use Rattle.qh_text.specs.Bitstrings.{index_of}
 use Rattle.qh_bits.specs.declared.faults.BitsFault.{BitsFault}
 use Rattle.qh_io.specs.Reading.{IsReadWhole}
 use Rattle.qh_plan.specs.Items.{items_of, number_at, AreNumbers, IsItemFault}
@@ -17,14 +18,16 @@ use Rattle.qh_words.specs.declared.size.GenSize.{GenSize}
 use Rattle.qh_top.specs.Seen.{Seen, Rises}
 use Rattle.qh_top.specs.Inputs.{IsCircuitFile, IsRead, IsGenerated, IsInput, first_indices}
 use Rattle.qh_top.specs.Answer.{IsAnswerBy, IsPlannedJob}
-use Rattle.qh_top.specs.Refusals.{PlanRefusesBy, PlanRefuses, FilesRefuse, SizeRefuses, RefusesBy, Refuses, FilesReading, ReadingBy, Reading}
+use Rattle.qh_top.specs.Refusals.{PlanRefusesBy, PlanRefuses, FilesRefuse, SizeRefuses, RefusesBy, Refuses, FilesReading, ReadingBy, Reading, SourceRises, RefusesAll, IsOfWords}
 use Rattle.qh_top.specs.declared.stop.Refusal.{Refusal}
 use Rattle.qh_top.specs.declared.stop.Refusal.TheVariants.{CircuitTooLong, CircuitLine, BitsTooLong, BitsLine, Plan}
 use Rattle.qh_top.specs.declared.stop.Input.TheVariants.{OfCircuit, OfBits}
 use Rattle.qh_top.specs.declared.stop.Stop.{Stop}
 use Rattle.qh_top.specs.declared.stop.Stop.TheVariants.{Usage, Refused, OverflowGate, OverflowPath, ReadFault, WriteFault, Memory}
-use Rattle.qh_top.specs.Request.{Prints, HasInput, Answers}
+use Rattle.qh_top.specs.Request.{Prints, HasInput, FaultCame, Answers}
 use Rattle.qh_top.specs.Stops.{status_of, stop_of, MayStopBy, MayStop}
+use Rattle.qh_top.proofs.Words.{words_of_plan}
+use Rattle.qh_top.proofs.Strings.{asked_indices}
 use Rattle.qh_top.specs.Parts.{FilesMayStop, InputMayStop, PlanMayStop, AnswerMayStop}
 
 -- ---- what was read
@@ -99,9 +102,16 @@ pub narrow_not_refused : (o : Options) (c : Circuit) (xs : List ℕ) → c.qubit
 narrow_not_refused o c xs l fault h = too_long c.qubits 16 l h.1
 
 -- what is answered is not refused
-pub answered_not_refused : (part : Option (List ℕ)) (o : Options) (c : Circuit) (xs text : List ℕ) → IsAnswerBy part o c xs text → (fault : PlanFault) → PlanRefusesBy part o c xs fault → ⊥
-answered_not_refused None o c xs text a fault h = narrow_not_refused o c xs a.narrow fault h
-answered_not_refused (Some part) o c xs text a fault h = planned_not_refused o part c xs a.job a.planned fault h
+pub answered_not_refused : (part : Option (List ℕ)) (o : Options) (c : Circuit) (xs : List ℕ) (strings : List (List ℕ)) (text : List ℕ) → map index_of strings ≡ xs
+    → IsAnswerBy part o c strings text → (fault : PlanFault) → PlanRefusesBy part o c xs fault → ⊥
+answered_not_refused None o c xs strings text e a fault h = narrow_not_refused o c xs a.narrow fault h
+answered_not_refused (Some part) o c xs strings text e a fault h =
+    planned_not_refused o part c xs a.job (subst (λ ys. IsPlannedJob o part c ys a.job) e a.planned) fault h
+
+-- what was printed is not refused
+printed_not_refused : (o : Options) (circuit bits out : Seen) (front : List ℕ → List ℕ) (p : Prints o circuit bits out front) (fault : PlanFault) → PlanRefuses o p.value p.indices fault → ⊥
+printed_not_refused o circuit bits out front p fault h =
+    answered_not_refused o.part o p.value p.indices _ p.text (asked_indices o.max_time circuit bits p.value p.indices o.generated p.input) p.answer fault h
 
 -- the stop of a plan's fault
 pub plan_stops : (P : PlanFault → Type 0) (fault : PlanFault) → (fault ≢ PlanMemory → P fault) → PlanMayStop P (stop_of fault)
@@ -164,9 +174,16 @@ files_refuse o circuit bits BitsTooLong h = h
 files_refuse o circuit bits (BitsLine line why) h = h
 files_refuse o circuit bits (Plan fault) h = absurd h
 
+files_words : (o : Options) (circuit bits : Seen) (r : Refusal) → o.generated ≡ None → FilesMayStop o.max_time circuit bits (Refused r) → IsOfWords o r
+files_words o circuit bits CircuitTooLong e h = e
+files_words o circuit bits (CircuitLine line why) e h = e
+files_words o circuit bits BitsTooLong e h = e
+files_words o circuit bits (BitsLine line why) e h = e
+files_words o circuit bits (Plan fault) e h = absurd h
+
 pub input_cause : (o : Options) (circuit bits out : Seen) (g : Option GenSize) → o.generated ≡ g → (stop : Stop) → InputMayStop g o.max_time circuit bits stop → MayStopBy o circuit bits out stop
 input_cause o circuit bits out None e Usage h = absurd h
-input_cause o circuit bits out None e (Refused r) h = subst (λ g. RefusesBy g (λ known P. IfSome known P) o r circuit.before bits.before) (sym e) (files_refuse o circuit bits r h)
+input_cause o circuit bits out None e (Refused r) h = (files_words o circuit bits r e h, subst (λ g. RefusesBy g (λ known P. IfSome known P) o r circuit.before bits.before) (sym e) (files_refuse o circuit bits r h))
 input_cause o circuit bits out None e (OverflowGate gate) h = absurd h
 input_cause o circuit bits out None e (OverflowPath path) h = absurd h
 input_cause o circuit bits out None e (ReadFault OfCircuit) h = (e, h)
@@ -184,6 +201,10 @@ plan_refused o circuit bits None c xs a fault h =
 plan_refused o circuit bits (Some size) c xs a fault h =
     subst (λ d. PlanRefuses o d (first_indices d.qubits) fault) a.circuit (subst (λ ys. PlanRefuses o c ys fault) a.indices h)
 
+plan_cause : (o : Options) (circuit bits : Seen) (c : Circuit) (xs : List ℕ) → IsInput o.generated o.max_time circuit bits c xs → (fault : PlanFault) → PlanRefuses o c xs fault
+    → IsOfWords o (Plan fault) × Refuses (λ known P. IfSome known P) o (Plan fault) circuit.before bits.before
+plan_cause o circuit bits c xs a fault h = (words_of_plan o.part o c xs fault h, plan_refused o circuit bits o.generated c xs a fault h)
+
 pub answer_cause : (o : Options) (circuit bits out : Seen) (c : Circuit) (xs : List ℕ) → IsInput o.generated o.max_time circuit bits c xs
     → (part : Option (List ℕ)) → o.part ≡ part → (stop : Stop) → AnswerMayStop part o c xs stop → MayStopBy o circuit bits out stop
 answer_cause o circuit bits out c xs a None e Usage h = absurd h
@@ -192,7 +213,7 @@ answer_cause o circuit bits out c xs a None e (Refused (CircuitLine line why)) h
 answer_cause o circuit bits out c xs a None e (Refused BitsTooLong) h = absurd h
 answer_cause o circuit bits out c xs a None e (Refused (BitsLine line why)) h = absurd h
 answer_cause o circuit bits out c xs a None e (Refused (Plan fault)) h =
-    plan_refused o circuit bits o.generated c xs a fault (subst (λ p. PlanRefusesBy p o c xs fault) (sym e) h)
+    plan_cause o circuit bits c xs a fault (subst (λ p. PlanRefusesBy p o c xs fault) (sym e) h)
 answer_cause o circuit bits out c xs a None e (OverflowGate gate) h = record { value = c; indices = xs; input = a; uncut = e; narrow = h.0; over = h.1 }
 answer_cause o circuit bits out c xs a None e (OverflowPath path) h = absurd h
 answer_cause o circuit bits out c xs a None e (ReadFault input) h = absurd h
@@ -204,7 +225,7 @@ answer_cause o circuit bits out c xs a (Some part) e (Refused (CircuitLine line 
 answer_cause o circuit bits out c xs a (Some part) e (Refused BitsTooLong) h = absurd h
 answer_cause o circuit bits out c xs a (Some part) e (Refused (BitsLine line why)) h = absurd h
 answer_cause o circuit bits out c xs a (Some part) e (Refused (Plan fault)) h =
-    plan_refused o circuit bits o.generated c xs a fault (subst (λ p. PlanRefusesBy p o c xs fault) (sym e) h)
+    plan_cause o circuit bits c xs a fault (subst (λ p. PlanRefusesBy p o c xs fault) (sym e) h)
 answer_cause o circuit bits out c xs a (Some part) e (OverflowGate gate) h = absurd h
 answer_cause o circuit bits out c xs a (Some part) e (OverflowPath path) h =
     record { value = c; indices = xs; input = a; part = part; cut = e; job = h.0; planned = h.1; over = h.2 }
@@ -256,24 +277,50 @@ refused_answer o status circuit bits out (ReadFault OfCircuit) e m r h =
 refused_answer o status circuit bits out (ReadFault OfBits) e m r h =
     inr (inr (read_fault o circuit bits status o.generated refl e m.0 r (λ k. reading_bits o circuit bits r m.1 m.2 k) h))
 refused_answer o status circuit bits out (WriteFault n) e m r h =
-    absurd (input_not_refused o circuit bits o.generated m.1.0.value m.1.0.indices m.1.0.input
-    (answered_not_refused o.part o m.1.0.value m.1.0.indices m.1.0.text m.1.0.answer) r h)
+    absurd (input_not_refused o circuit bits o.generated m.1.0.value m.1.0.indices m.1.0.input (printed_not_refused o circuit bits out _ m.1.0) r h)
 refused_answer o status circuit bits out Memory e m r h = inr (inl e)
 
+-- ---- how a request whose words alone are refused may stop
+reads : (o : Options) (circuit bits : Seen) → o.generated ≡ None → Rises circuit ⊎ Rises bits → SourceRises o.generated circuit bits
+reads o circuit bits e rose = subst (λ g. SourceRises g circuit bits) (sym e) rose
+
+pub words_answer : (o : Options) (status : ℕ) (circuit bits out : Seen) (stop : Stop) → status ≡ status_of stop → MayStopBy o circuit bits out stop → RefusesAll o
+    → (status ≡ 2) ⊎ ((status ≡ 7) ⊎ ((status ≡ 4) × SourceRises o.generated circuit bits))
+words_answer o status circuit bits out Usage e m all = absurd m
+words_answer o status circuit bits out (Refused s) e m all = inl e
+words_answer o status circuit bits out (OverflowGate gate) e m all =
+    let f = all m.value m.indices in
+    absurd (narrow_not_refused o m.value m.indices m.narrow f.0 (subst (λ q. PlanRefusesBy q o m.value m.indices f.0) m.uncut f.1))
+words_answer o status circuit bits out (OverflowPath path) e m all =
+    let f = all m.value m.indices in
+    absurd (planned_not_refused o m.part m.value m.indices m.job m.planned f.0 (subst (λ q. PlanRefusesBy q o m.value m.indices f.0) m.cut f.1))
+words_answer o status circuit bits out (ReadFault OfCircuit) e m all = inr (inr (e, reads o circuit bits m.0 (inl m.1)))
+words_answer o status circuit bits out (ReadFault OfBits) e m all = inr (inr (e, reads o circuit bits m.0 (inr m.1)))
+words_answer o status circuit bits out (WriteFault n) e m all =
+    let f = all m.1.0.value m.1.0.indices in
+    absurd (printed_not_refused o circuit bits out _ m.1.0 f.0 f.1)
+words_answer o status circuit bits out Memory e m all = inr (inl e)
+
+-- what was printed is not what words alone refuse
+pub words_printed : (o : Options) (circuit bits out : Seen) → Prints o circuit bits out (λ text. text) → RefusesAll o → ⊥
+words_printed o circuit bits out p all = let f = all p.value p.indices in printed_not_refused o circuit bits out _ p f.0 f.1
+
 -- ---- how an accepted request stops where no fault came
-accepted_not_refused : (o : Options) (cb bb : List ℕ) (g : Option GenSize) (c : Circuit) (xs : List ℕ) → HasInput g o.max_time cb bb c xs → ((fault : PlanFault) → PlanRefuses o c xs fault → ⊥)
-    → (r : Refusal) → RefusesBy g (λ known P. IfSome known P) o r (Some cb) (Some bb) → ⊥
-accepted_not_refused o cb bb None c xs a ok CircuitTooLong h = too_long _ _ a.0.short h
-accepted_not_refused o cb bb None c xs a ok (CircuitLine line why) h = circuit_clash _ _ _ a.0.read h.1
-accepted_not_refused o cb bb None c xs a ok BitsTooLong h = too_long _ _ a.1.short h.2
-accepted_not_refused o cb bb None c xs a ok (BitsLine line why) h =
+accepted_not_refused : (o : Options) (circuit bits : Option (List ℕ)) (g : Option GenSize) (c : Circuit) (xs : List ℕ) → HasInput g o.max_time circuit bits c xs
+    → ((fault : PlanFault) → PlanRefuses o c xs fault → ⊥) → (r : Refusal) → RefusesBy g (λ known P. IfSome known P) o r circuit bits → ⊥
+accepted_not_refused o None bits None c xs a ok r h = absurd a.0
+accepted_not_refused o (Some cb) None None c xs a ok r h = absurd a.1
+accepted_not_refused o (Some cb) (Some bb) None c xs a ok CircuitTooLong h = too_long _ _ a.0.short h
+accepted_not_refused o (Some cb) (Some bb) None c xs a ok (CircuitLine line why) h = circuit_clash _ _ _ a.0.read h.1
+accepted_not_refused o (Some cb) (Some bb) None c xs a ok BitsTooLong h = too_long _ _ a.1.short h.2
+accepted_not_refused o (Some cb) (Some bb) None c xs a ok (BitsLine line why) h =
     let same = same_circuit _ _ _ a.0.read h.1.read in
     bits_clash _ _ _ (sym (ap (λ (c : Circuit). bits_of c.qubits bb) same) ∙ a.1.read) h.2.1
-accepted_not_refused o cb bb None c xs a ok (Plan fault) h =
+accepted_not_refused o (Some cb) (Some bb) None c xs a ok (Plan fault) h =
     let same = same_circuit _ _ _ a.0.read h.1.read in
     let these = same_bits _ _ _ (sym (ap (λ (c : Circuit). bits_of c.qubits bb) same) ∙ a.1.read) h.2.1.read in
     ok fault (subst (λ ys. PlanRefuses o c ys fault) (sym these) (subst (λ d. PlanRefuses o d h.2.0 fault) (sym same) h.2.2))
-accepted_not_refused o cb bb (Some size) c xs a ok r h = by_size r h
+accepted_not_refused o circuit bits (Some size) c xs a ok r h = by_size r h
   where
     by_size : (r : Refusal) → SizeRefuses o size r → ⊥
     by_size CircuitTooLong h = h
@@ -284,20 +331,18 @@ accepted_not_refused o cb bb (Some size) c xs a ok r h = by_size r h
         ok fault (subst (λ ys. PlanRefuses o c ys fault) (sym a.indices)
         (subst (λ d. PlanRefuses o d (first_indices d.qubits) fault) (sym a.circuit) h))
 
-pub accepted_answer : (o : Options) (status : ℕ) (circuit bits out : Seen) (cb bb : List ℕ) → circuit.before ≡ Some cb → bits.before ≡ Some bb
-    → (Rises circuit → ⊥) → (Rises bits → ⊥) → (Rises out → ⊥) → (stop : Stop) → status ≡ status_of stop → MayStopBy o circuit bits out stop
-    → (c : Circuit) (xs : List ℕ) → HasInput o.generated o.max_time cb bb c xs → ((fault : PlanFault) → PlanRefuses o c xs fault → ⊥)
+accepted_answer : (o : Options) (status : ℕ) (circuit bits out : Seen) → (SourceRises o.generated circuit bits ⊎ Rises out → ⊥)
+    → (stop : Stop) → status ≡ status_of stop → MayStopBy o circuit bits out stop
+    → (c : Circuit) (xs : List ℕ) → HasInput o.generated o.max_time circuit.before bits.before c xs → ((fault : PlanFault) → PlanRefuses o c xs fault → ⊥)
     → (status ≡ 0) ⊎ ((status ≡ 3) ⊎ (status ≡ 7))
-accepted_answer o status circuit bits out cb bb d f nc nb nw Usage e m c xs a ok = absurd m
-accepted_answer o status circuit bits out cb bb d f nc nb nw (Refused r) e m c xs a ok =
-    absurd (accepted_not_refused o cb bb o.generated c xs a ok r
-    (subst (λ k. Refuses (λ known P. IfSome known P) o r (Some cb) k) f (subst (λ k. Refuses (λ known P. IfSome known P) o r k bits.before) d m)))
-accepted_answer o status circuit bits out cb bb d f nc nb nw (OverflowGate gate) e m c xs a ok = inr (inl e)
-accepted_answer o status circuit bits out cb bb d f nc nb nw (OverflowPath path) e m c xs a ok = inr (inl e)
-accepted_answer o status circuit bits out cb bb d f nc nb nw (ReadFault OfCircuit) e m c xs a ok = absurd (nc m.1)
-accepted_answer o status circuit bits out cb bb d f nc nb nw (ReadFault OfBits) e m c xs a ok = absurd (nb m.1)
-accepted_answer o status circuit bits out cb bb d f nc nb nw (WriteFault n) e m c xs a ok = absurd (nw m.0)
-accepted_answer o status circuit bits out cb bb d f nc nb nw Memory e m c xs a ok = inr (inr e)
+accepted_answer o status circuit bits out none Usage e m c xs a ok = absurd m
+accepted_answer o status circuit bits out none (Refused r) e m c xs a ok = absurd (accepted_not_refused o circuit.before bits.before o.generated c xs a ok r m.1)
+accepted_answer o status circuit bits out none (OverflowGate gate) e m c xs a ok = inr (inl e)
+accepted_answer o status circuit bits out none (OverflowPath path) e m c xs a ok = inr (inl e)
+accepted_answer o status circuit bits out none (ReadFault OfCircuit) e m c xs a ok = absurd (none (inl (reads o circuit bits m.0 (inl m.1))))
+accepted_answer o status circuit bits out none (ReadFault OfBits) e m c xs a ok = absurd (none (inl (reads o circuit bits m.0 (inr m.1))))
+accepted_answer o status circuit bits out none (WriteFault n) e m c xs a ok = absurd (none (inr m.0))
+accepted_answer o status circuit bits out none Memory e m c xs a ok = inr (inr e)
 
 -- ---- the whole answer where no fault came
 same_some : (p q : Options) → ◌≡◌ {A = Option Options} (Some p) (Some q) → p ≡ q
@@ -309,45 +354,38 @@ none_is_some q e = cc
 some_is_none : (p : Options) → ◌≡◌ {A = Option Options} (Some p) None → ⊥
 some_is_none p e = cc
 
--- of two texts that are told, both readings of a refusal are one
-both_told : (o : Options) (cb bb : List ℕ) (g : Option GenSize) (r : Refusal) → RefusesBy g (λ known P. IfSome known P) o r (Some cb) (Some bb) → RefusesBy g (λ known P. IsSomeAnd known P) o r (Some cb) (Some bb)
-both_told o cb bb None CircuitTooLong h = h
-both_told o cb bb None (CircuitLine line why) h = h
-both_told o cb bb None BitsTooLong h = h
-both_told o cb bb None (BitsLine line why) h = h
-both_told o cb bb None (Plan fault) h = h
-both_told o cb bb (Some size) r h = h
+-- what ended well was not refused
+pub ok_refused : (q : Option Options) (o : Options) (circuit bits out : Seen) → IsSomeAnd q (λ p. Prints p circuit bits out (λ text. text)) → q ≡ Some o
+    → (r : Refusal) → Refuses (λ known P. IsSomeAnd known P) o r circuit.before bits.before → ⊥
+ok_refused None o circuit bits out h e r k = absurd h
+ok_refused (Some p) o circuit bits out h e r k =
+    input_not_refused p circuit bits p.generated h.value h.indices h.input (printed_not_refused p circuit bits out _ h) r
+    (subst (λ o. Refuses (λ known P. IsSomeAnd known P) o r circuit.before bits.before) (sym (same_some p o e)) k)
 
-told_refuses : (p q : Options) (circuit bits : Seen) (cb bb : List ℕ) → circuit.before ≡ Some cb → bits.before ≡ Some bb → p ≡ q → (r : Refusal)
-    → Refuses (λ known P. IfSome known P) q r (Some cb) (Some bb) → Refuses (λ known P. IsSomeAnd known P) p r circuit.before bits.before
-told_refuses p q circuit bits cb bb d f e r h =
-    subst (λ k. Refuses (λ known P. IsSomeAnd known P) p r k bits.before) (sym d)
-    (subst (λ k. Refuses (λ known P. IsSomeAnd known P) p r (Some cb) k) (sym f)
-    (both_told p cb bb p.generated r (subst (λ o. Refuses (λ known P. IfSome known P) o r (Some cb) (Some bb)) (sym e) h)))
+pub ok_words : (q : Option Options) (o : Options) (circuit bits out : Seen) → IsSomeAnd q (λ p. Prints p circuit bits out (λ text. text)) → q ≡ Some o → RefusesAll o → ⊥
+ok_words None o circuit bits out h e all = absurd h
+ok_words (Some p) o circuit bits out h e all = words_printed p circuit bits out h (subst RefusesAll (sym (same_some p o e)) all)
 
-pub ok_answers : (o : Option Options) (circuit bits out : Seen) (cb bb : List ℕ) → circuit.before ≡ Some cb → bits.before ≡ Some bb
-    → IsSomeAnd o (λ p. Prints p circuit bits out (λ text. text)) → Answers o cb bb 0
-ok_answers None circuit bits out cb bb d f h = absurd h
-ok_answers (Some p) circuit bits out cb bb d f h = record {
+pub ok_answers : (o : Option Options) (circuit bits out : Seen)
+    → IsSomeAnd o (λ p. Prints p circuit bits out (λ text. text)) → Answers o circuit.before bits.before 0
+ok_answers None circuit bits out h = absurd h
+ok_answers (Some p) circuit bits out h = record {
   usage = λ e. absurd (some_is_none p e);
-  refused = λ q e r k. absurd (input_not_refused p circuit bits p.generated h.value h.indices h.input
-      (answered_not_refused p.part p h.value h.indices h.text h.answer) r (told_refuses p q circuit bits cb bb d f (same_some p q e) r k));
+  refused = λ q e r k. absurd (ok_refused (Some p) q circuit bits out h e r k);
+  refused_by_words = λ q e all. absurd (ok_words (Some p) q circuit bits out h e all);
   accepted = λ q e c xs a ok. inl refl;
 }
 
-files_rose : (circuit bits : Seen) (r : Refusal) → (Rises circuit → ⊥) → (Rises bits → ⊥) → FilesReading circuit bits r → ⊥
-files_rose circuit bits CircuitTooLong nc nb h = nc h
-files_rose circuit bits (CircuitLine line why) nc nb h = nc h
-files_rose circuit bits BitsTooLong nc nb (inl h) = nc h
-files_rose circuit bits BitsTooLong nc nb (inr h) = nb h
-files_rose circuit bits (BitsLine line why) nc nb (inl h) = nc h
-files_rose circuit bits (BitsLine line why) nc nb (inr h) = nb h
-files_rose circuit bits (Plan fault) nc nb (inl h) = nc h
-files_rose circuit bits (Plan fault) nc nb (inr h) = nb h
+files_rose : (circuit bits : Seen) (r : Refusal) → (Rises circuit ⊎ Rises bits → ⊥) → FilesReading circuit bits r → ⊥
+files_rose circuit bits CircuitTooLong none h = none (inl h)
+files_rose circuit bits (CircuitLine line why) none h = none (inl h)
+files_rose circuit bits BitsTooLong none h = none h
+files_rose circuit bits (BitsLine line why) none h = none h
+files_rose circuit bits (Plan fault) none h = none h
 
-none_rose : (g : Option GenSize) (circuit bits : Seen) (r : Refusal) → (Rises circuit → ⊥) → (Rises bits → ⊥) → ReadingBy g circuit bits r → ⊥
-none_rose None circuit bits r nc nb h = files_rose circuit bits r nc nb h
-none_rose (Some size) circuit bits r nc nb h = h
+none_rose : (g : Option GenSize) (circuit bits : Seen) (r : Refusal) → (SourceRises g circuit bits → ⊥) → ReadingBy g circuit bits r → ⊥
+none_rose None circuit bits r none h = files_rose circuit bits r none h
+none_rose (Some size) circuit bits r none h = h
 
 two_or_seven : (status : ℕ) (R : Type 0) → (R → ⊥) → (status ≡ 2) ⊎ ((status ≡ 7) ⊎ ((status ≡ 4) × R)) → (status ≡ 2) ⊎ (status ≡ 7)
 two_or_seven status R n (inl e) = inl e
@@ -363,24 +401,22 @@ one_or_seven status circuit bits out (ReadFault input) e m = absurd m
 one_or_seven status circuit bits out (WriteFault n) e m = absurd m
 one_or_seven status circuit bits out Memory e m = inr e
 
-pub err_answers : (o : Option Options) (status : ℕ) (circuit bits out : Seen) (cb bb : List ℕ) → circuit.before ≡ Some cb → bits.before ≡ Some bb
-    → (Rises circuit → ⊥) → (Rises bits → ⊥) → (Rises out → ⊥) → (stop : Stop) → status ≡ status_of stop → MayStop o circuit bits out stop → Answers o cb bb status
-err_answers None status circuit bits out cb bb d f nc nb nw stop e m = record {
+pub err_answers : (o : Option Options) (status : ℕ) (circuit bits out : Seen) → (FaultCame o circuit bits out → ⊥)
+    → (stop : Stop) → status ≡ status_of stop → MayStop o circuit bits out stop → Answers o circuit.before bits.before status
+err_answers None status circuit bits out none stop e m = record {
   usage = λ n. one_or_seven status circuit bits out stop e m;
   refused = λ q n r k. absurd (none_is_some q n);
+  refused_by_words = λ q n all. absurd (none_is_some q n);
   accepted = λ q n c xs a ok. absurd (none_is_some q n);
 }
-err_answers (Some p) status circuit bits out cb bb d f nc nb nw stop e m = record {
+err_answers (Some p) status circuit bits out none stop e m = record {
   usage = λ n. absurd (some_is_none p n);
-  refused = λ q n r k. two_or_seven status (Reading p circuit bits r) (none_rose p.generated circuit bits r nc nb)
-      (refused_answer p status circuit bits out stop e m r (told_refuses p q circuit bits cb bb d f (same_some p q n) r k));
+  refused = λ q n r k. two_or_seven status (Reading p circuit bits r) (none_rose p.generated circuit bits r (λ rose. none (inl rose)))
+      (refused_answer p status circuit bits out stop e m r (subst (λ o. Refuses (λ known P. IsSomeAnd known P) o r circuit.before bits.before) (sym (same_some p q n)) k));
+  refused_by_words = λ q n all. two_or_seven status (SourceRises p.generated circuit bits) (λ rose. none (inl rose))
+      (words_answer p status circuit bits out stop e m (subst RefusesAll (sym (same_some p q n)) all));
   accepted = λ q n c xs a ok.
-      accepted_answer p status circuit bits out cb bb d f nc nb nw stop e m c xs
-      (subst (λ (o : Options). HasInput o.generated o.max_time cb bb c xs) (sym (same_some p q n)) a)
+      accepted_answer p status circuit bits out none stop e m c xs
+      (subst (λ (o : Options). HasInput o.generated o.max_time circuit.before bits.before c xs) (sym (same_some p q n)) a)
       (λ fault k. ok fault (subst (λ (o : Options). PlanRefuses o c xs fault) (same_some p q n) k));
 }
-
-pub if_both : (o1 o2 : Option (List ℕ)) (P : List ℕ → List ℕ → Type 0) → ((cb bb : List ℕ) → o1 ≡ Some cb → o2 ≡ Some bb → P cb bb) → IfSome o1 (λ cb. IfSome o2 (λ bb. P cb bb))
-if_both None o2 P f = tt
-if_both (Some x) None P f = tt
-if_both (Some x) (Some y) P f = f x y refl refl

@@ -1,4 +1,7 @@
+-- Lemmas: what is said adds up, what causes exclude and give, and the strings of a text.
 pub mod Saying
+pub mod Words
+pub mod Strings
 pub mod Causes
 pub mod Values
 mod FirstIndices

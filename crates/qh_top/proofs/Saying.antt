@@ -6,7 +6,8 @@ use Rattle.std.proofs.KnownBytes.{Appends-trans}
 use Rattle.std.proofs.Math.Seq.{take-append-add, take-append_seam}
 use Rattle.std.proofs.lemmas.List.{take-append-le, take_all}
 use Rattle.std.proofs.lemmas.Bool.{cases_lt}
-use Rattle.qh_io.specs.Causes.{Rose}
+use Rattle.qh_counts.specs.Counts.{Rose}
+use Rattle.qh_counts.proofs.Chains.{rose_before}
 use Rattle.qh_top.specs.Stops.{Says}
 
 pub says_whole : (a b : Option (List ℕ)) (f g : ℕ) (x : List ℕ) → f ≤ g → Appends a b x → Says (record { before = a; after = b; faults = f; faults_after = g }) x
@@ -15,14 +16,11 @@ says_whole a b f g x l p = record { later = l; front = (length x, subst (Appends
 pub says_part : (a b : Option (List ℕ)) (f g n : ℕ) (x : List ℕ) → f ≤ g → Appends a b (take n x) → Rose f g → Says (record { before = a; after = b; faults = f; faults_after = g }) x
 says_part a b f g n x l p r = record { later = l; front = (n, p); whole = λ none. absurd (none r) }
 
-pub rose_more : (f g h : ℕ) → f ≤ g → Rose g h → Rose f h
-rose_more f g h l r = omega arith
-
 pub says_append : (a b c : Option (List ℕ)) (f g h : ℕ) (x y : List ℕ) → f ≤ g → Appends a b x → Says (record { before = b; after = c; faults = g; faults_after = h }) y → Says (record { before = a; after = c; faults = f; faults_after = h }) (x ++ y)
 says_append a b c f g h x y l p s = record {
   later = omega (arith, s.later);
   front = (length x + s.front.0, subst (Appends a c) (sym (take-append-add x y s.front.0)) (Appends-trans a b c x _ p s.front.1));
-  whole = λ none. Appends-trans a b c x y p (s.whole (λ r. none (rose_more f g h l r)));
+  whole = λ none. Appends-trans a b c x y p (s.whole (λ r. none (rose_before f g h l r)));
 }
 
 -- it stopped in the front part

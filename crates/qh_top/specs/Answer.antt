@@ -7,9 +7,12 @@ use Rattle.qh_plan.specs.Jobs.{Job, crossing, ranges}
 use Rattle.qh_plan.specs.Plans.{first_fault, job_of}
 use Rattle.qh_meaning.specs.Asked.{asked}
 use Rattle.qh_meaning.specs.Laws.{NoneOver}
-use Rattle.qh_print.specs.Output.{IsText, word_of}
+use Rattle.qh_text.specs.Bitstrings.{index_of}
+use Rattle.qh_text.specs.Words.{word_of}
 use Rattle.qh_words.specs.declared.options.Options.{Options}
 use Rattle.qh_words.specs.declared.size.GenSize.{GenSize}
+use Rattle.qh_limits.specs.Limits.{max_uncut_qubits}
+use Rattle.qh_top.specs.Lines.{AreLines}
 
 -- gen n g K c r: the numbers of qubits, gates, scaled gates, crossing gates and ranges
 unfoldable pub gen_line : Circuit → ℕ → ℕ → List ℕ
@@ -22,12 +25,12 @@ abbrev pub head_text : Option GenSize → Circuit → ℕ → ℕ → List ℕ
 head_text None c crossing_gates range_count = []
 head_text (Some size) c crossing_gates range_count = gen_line c crossing_gates range_count
 
--- the amplitudes of an uncut circuit of at most 16 qubits, none of whose coefficients reaches 2^126
-pub record IsUncutAnswer (generated : Option GenSize) (c : Circuit) (xs text : List ℕ) : Type 0 where
-  pub narrow : c.qubits ≤ 16
+-- the amplitudes of an uncut circuit of at most 16 qubits, none of whose coefficients reaches 2^126: one for each string
+pub record IsUncutAnswer (generated : Option GenSize) (c : Circuit) (strings : List (List ℕ)) (text : List ℕ) : Type 0 where
+  pub narrow : c.qubits ≤ max_uncut_qubits
   pub never : NeverOver c
   pub lines : List ℕ
-  pub are_lines : IsText c.qubits (total_weight c.gates) xs (map (uncut c.gates) xs) lines
+  pub are_lines : AreLines (total_weight c.gates) strings (map (λ s. uncut c.gates (index_of s)) strings) lines
   pub text_is : text ≡ head_text generated c 0 0 ++ lines
 
 -- the job that a part and the options plan
@@ -37,24 +40,24 @@ pub record IsPlannedJob (o : Options) (part : List ℕ) (c : Circuit) (xs : List
   pub accepted : first_fault c items o.p o.r o.w xs ≡ None
   pub job : j ≡ job_of c items o.p o.r o.w xs
 
--- the lines of the amplitudes that a job asks for, behind the first line where the circuit is generated
-pub record IsJobText (generated : Option GenSize) (j : Job) (text : List ℕ) : Type 0 where
+-- the amplitudes that a job asks for at these strings, behind the first line where the circuit is generated
+pub record IsJobText (generated : Option GenSize) (j : Job) (strings : List (List ℕ)) (text : List ℕ) : Type 0 where
   pub lines : List ℕ
-  pub are_lines : IsText j.circuit.qubits (total_weight j.circuit.gates) j.bits (map (asked j) j.bits) lines
+  pub are_lines : AreLines (total_weight j.circuit.gates) strings (map (λ s. asked j (index_of s)) strings) lines
   pub text_is : text ≡ head_text generated j.circuit (crossing j) (ranges j) ++ lines
 
 -- the text of the job that is planned, none of whose paths is over
-pub record IsCutAnswer (o : Options) (part : List ℕ) (c : Circuit) (xs text : List ℕ) : Type 0 where
+pub record IsCutAnswer (o : Options) (part : List ℕ) (c : Circuit) (strings : List (List ℕ)) (text : List ℕ) : Type 0 where
   pub job : Job
-  pub planned : IsPlannedJob o part c xs job
+  pub planned : IsPlannedJob o part c (map index_of strings) job
   pub none : NoneOver job
-  pub text_is : IsJobText o.generated job text
+  pub text_is : IsJobText o.generated job strings text
 
 -- with a part 1 the circuit is cut, and else it is not
-abbrev pub IsAnswerBy : Option (List ℕ) → Options → Circuit → List ℕ → List ℕ → Type 0
-IsAnswerBy None o c xs text = IsUncutAnswer o.generated c xs text
-IsAnswerBy (Some part) o c xs text = IsCutAnswer o part c xs text
+abbrev pub IsAnswerBy : Option (List ℕ) → Options → Circuit → List (List ℕ) → List ℕ → Type 0
+IsAnswerBy None o c strings text = IsUncutAnswer o.generated c strings text
+IsAnswerBy (Some part) o c strings text = IsCutAnswer o part c strings text
 
--- the text that the options ask for of a circuit at these indices
-abbrev pub IsAnswer : Options → Circuit → List ℕ → List ℕ → Type 0
-IsAnswer o c xs text = IsAnswerBy o.part o c xs text
+-- the text that the options ask for of a circuit at these strings
+abbrev pub IsAnswer : Options → Circuit → List (List ℕ) → List ℕ → Type 0
+IsAnswer o c strings text = IsAnswerBy o.part o c strings text

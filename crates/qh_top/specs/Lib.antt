@@ -1,7 +1,9 @@
 -- The definitions that the contract of the top call cites.
 pub mod Seen
 pub mod Inputs
+pub mod Lines
 pub mod Answer
+pub mod Indexed
 pub mod Refusals
 pub mod Request
 pub mod Stops

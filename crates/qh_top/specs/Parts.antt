@@ -1,5 +1,6 @@
 -- What the parts of the call stop with.
-use Rattle.std.specs.Prelude.{◌≡◌, ℕ, ◌^◌, ◌<◌, ◌≤◌, List, length, IfSome, Option, Some, None}
+use Rattle.std.specs.Prelude.{◌≡◌, ℕ, ◌<◌, ◌≤◌, List, length, IfSome, Option, Some, None}
+use Rattle.qh_limits.specs.Limits.{max_uncut_qubits, max_circuit_bytes, max_bits_bytes}
 use Rattle.qh_gates.specs.Circuits.{Circuit}
 use Rattle.qh_gates.specs.Evolution.{IsUncutOver}
 use Rattle.qh_plan.specs.Jobs.{Job}
@@ -20,7 +21,7 @@ use Rattle.qh_top.specs.declared.stop.Stop.TheVariants.{Refused, OverflowGate, O
 
 -- what a call that reads the circuit stops with
 abbrev pub CircuitMayStop : ℕ → Option (List ℕ) → Type 0 → Stop → Type 0
-CircuitMayStop T circuit rose (Refused CircuitTooLong) = IfSome circuit (λ bytes. 2 ^ 20 < length bytes)
+CircuitMayStop T circuit rose (Refused CircuitTooLong) = IfSome circuit (λ bytes. max_circuit_bytes < length bytes)
 CircuitMayStop T circuit rose (Refused (CircuitLine line why)) = IfSome circuit (IsFaultyCircuit T line why)
 CircuitMayStop T circuit rose (ReadFault OfCircuit) = rose
 CircuitMayStop T circuit rose Memory = Unit {0}
@@ -28,7 +29,7 @@ CircuitMayStop T circuit rose _ = ⊥
 
 -- one that reads the bitstrings
 abbrev pub BitsMayStop : Circuit → Option (List ℕ) → Type 0 → Stop → Type 0
-BitsMayStop c bits rose (Refused BitsTooLong) = IfSome bits (λ bytes. 2 ^ 18 < length bytes)
+BitsMayStop c bits rose (Refused BitsTooLong) = IfSome bits (λ bytes. max_bits_bytes < length bytes)
 BitsMayStop c bits rose (Refused (BitsLine line why)) = IfSome bits (AreFaultyBits c line why)
 BitsMayStop c bits rose (ReadFault OfBits) = rose
 BitsMayStop c bits rose Memory = Unit {0}
@@ -36,9 +37,9 @@ BitsMayStop c bits rose _ = ⊥
 
 -- one that reads both
 abbrev pub FilesMayStop : ℕ → Seen → Seen → Stop → Type 0
-FilesMayStop T circuit bits (Refused CircuitTooLong) = IfSome circuit.before (λ bytes. 2 ^ 20 < length bytes)
+FilesMayStop T circuit bits (Refused CircuitTooLong) = IfSome circuit.before (λ bytes. max_circuit_bytes < length bytes)
 FilesMayStop T circuit bits (Refused (CircuitLine line why)) = IfSome circuit.before (IsFaultyCircuit T line why)
-FilesMayStop T circuit bits (Refused BitsTooLong) = IfSome circuit.before (λ text. (c : Circuit) × IsCircuitFile T c text × IfSome bits.before (λ bytes. 2 ^ 18 < length bytes))
+FilesMayStop T circuit bits (Refused BitsTooLong) = IfSome circuit.before (λ text. (c : Circuit) × IsCircuitFile T c text × IfSome bits.before (λ bytes. max_bits_bytes < length bytes))
 FilesMayStop T circuit bits (Refused (BitsLine line why)) = IfSome circuit.before (λ text. (c : Circuit) × IsCircuitFile T c text × IfSome bits.before (AreFaultyBits c line why))
 FilesMayStop T circuit bits (ReadFault OfCircuit) = Rises circuit
 FilesMayStop T circuit bits (ReadFault OfBits) = Rises bits × IfSome circuit.before (λ text. (c : Circuit) × IsCircuitFile T c text)
@@ -52,8 +53,8 @@ InputMayStop (Some size) T circuit bits stop = stop ≡ Memory
 
 -- one that evolves a circuit whole
 abbrev pub UncutMayStop : Circuit → Stop → Type 0
-UncutMayStop c (Refused (Plan fault)) = (fault ≡ Wide c.qubits) × (16 < c.qubits)
-UncutMayStop c (OverflowGate gate) = (c.qubits ≤ 16) × IsUncutOver c gate
+UncutMayStop c (Refused (Plan fault)) = (fault ≡ Wide c.qubits) × (max_uncut_qubits < c.qubits)
+UncutMayStop c (OverflowGate gate) = (c.qubits ≤ max_uncut_qubits) × IsUncutOver c gate
 UncutMayStop c Memory = Unit {0}
 UncutMayStop c _ = ⊥
 

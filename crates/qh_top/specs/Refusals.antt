@@ -1,10 +1,11 @@
 -- When a request is refused.
-use Rattle.std.specs.Prelude.{◌≡◌, ℕ, ◌^◌, ◌<◌, ◌⊎◌, List, length, Option, Some, None}
+use Rattle.std.specs.Prelude.{◌≡◌, ℕ, ◌+◌, ◌<◌, ◌⊎◌, List, length, Option, Some, None, IsSome}
+use Rattle.qh_limits.specs.Limits.{max_uncut_qubits, max_circuit_bytes, max_bits_bytes}
 use Rattle.qh_gates.specs.Circuits.{Circuit}
 use Rattle.qh_plan.specs.Items.{items_of, AreNumbers, IsItemFault}
 use Rattle.qh_plan.specs.Plans.{first_fault}
 use Rattle.qh_plan.specs.declared.fault.PlanFault.{PlanFault}
-use Rattle.qh_plan.specs.declared.fault.PlanFault.TheVariants.{UncutTooWide as Wide}
+use Rattle.qh_plan.specs.declared.fault.PlanFault.TheVariants.{PartText, PrefixRoot, PrefixValue, UncutTooWide as Wide, Memory as PlanMemory}
 use Rattle.qh_words.specs.declared.options.Options.{Options}
 use Rattle.qh_words.specs.declared.size.GenSize.{GenSize}
 use Rattle.qh_top.specs.Seen.{Seen, Rises}
@@ -14,7 +15,7 @@ use Rattle.qh_top.specs.declared.stop.Refusal.TheVariants.{CircuitTooLong, Circu
 
 -- Without a cut the circuit is too wide; with one the text of part 1 is faulty, or else the plan has this first fault.
 abbrev pub PlanRefusesBy : Option (List ℕ) → Options → Circuit → List ℕ → PlanFault → Type 0
-PlanRefusesBy None o c xs fault = (fault ≡ Wide c.qubits) × (16 < c.qubits)
+PlanRefusesBy None o c xs fault = (fault ≡ Wide c.qubits) × (max_uncut_qubits < c.qubits)
 PlanRefusesBy (Some part) o c xs fault =
     IsItemFault (items_of part) fault ⊎ ((items : List ℕ) × AreNumbers (items_of part) items × (first_fault c items o.p o.r o.w xs ≡ Some fault))
 
@@ -24,9 +25,9 @@ PlanRefuses o c xs fault = PlanRefusesBy o.part o c xs fault
 -- A refusal of two files, by what the sources hold. Told says what is claimed of a source's content: IfSome claims nothing
 -- where it is not told, and IsSomeAnd claims that it is told.
 abbrev pub FilesRefuse : (Option (List ℕ) → (List ℕ → Type 0) → Type 0) → Options → Refusal → Option (List ℕ) → Option (List ℕ) → Type 0
-FilesRefuse Told o CircuitTooLong circuit bits = Told circuit (λ bytes. 2 ^ 20 < length bytes)
+FilesRefuse Told o CircuitTooLong circuit bits = Told circuit (λ bytes. max_circuit_bytes < length bytes)
 FilesRefuse Told o (CircuitLine line why) circuit bits = Told circuit (IsFaultyCircuit o.max_time line why)
-FilesRefuse Told o BitsTooLong circuit bits = Told circuit (λ text. (c : Circuit) × IsCircuitFile o.max_time c text × Told bits (λ bytes. 2 ^ 18 < length bytes))
+FilesRefuse Told o BitsTooLong circuit bits = Told circuit (λ text. (c : Circuit) × IsCircuitFile o.max_time c text × Told bits (λ bytes. max_bits_bytes < length bytes))
 FilesRefuse Told o (BitsLine line why) circuit bits = Told circuit (λ text. (c : Circuit) × IsCircuitFile o.max_time c text × Told bits (AreFaultyBits c line why))
 FilesRefuse Told o (Plan fault) circuit bits =
     Told circuit (λ text. (c : Circuit) × IsCircuitFile o.max_time c text × Told bits (λ bytes. (xs : List ℕ) × IsBitsFile c xs bytes × PlanRefuses o c xs fault))
@@ -56,3 +57,33 @@ ReadingBy (Some size) circuit bits r = ⊥
 
 abbrev pub Reading : Options → Seen → Seen → Refusal → Type 0
 Reading o circuit bits r = ReadingBy o.generated circuit bits r
+
+-- a source that the request reads rose its count; a generated circuit reads none
+abbrev pub SourceRises : Option GenSize → Seen → Seen → Type 0
+SourceRises None circuit bits = Rises circuit ⊎ Rises bits
+SourceRises (Some size) circuit bits = ⊥
+
+-- ---- what rests on the words alone, whatever the sources tell
+-- the plan refuses these options over every circuit and all basis indices, as where the text of part 1 is no list of numbers
+abbrev pub RefusesAll : Options → Type 0
+RefusesAll o = (c : Circuit) (xs : List ℕ) → (fault : PlanFault) × PlanRefuses o c xs fault
+
+-- a first fault of the plan by the split and the prefix value that are asked for
+abbrev pub IsOfSplit : ℕ → ℕ → Option ℕ → PlanFault → Type 0
+IsOfSplit p r w (PartText item) = ⊥
+IsOfSplit p r w (Wide qubits) = ⊥
+IsOfSplit p r w PlanMemory = ⊥
+IsOfSplit p r w (PrefixRoot crossing) = 0 < p + r
+IsOfSplit p r w (PrefixValue prefixes) = IsSome w
+IsOfSplit p r w fault = Unit {0}
+
+-- Without a cut the circuit is too wide; with one the text of part 1 is faulty, or else a list of numbers.
+abbrev pub IsOfCut : Option (List ℕ) → Options → PlanFault → Type 0
+IsOfCut None o fault = (qubits : ℕ) × (fault ≡ Wide qubits)
+IsOfCut (Some part) o fault =
+    IsItemFault (items_of part) fault ⊎ ((items : List ℕ) × AreNumbers (items_of part) items × IsOfSplit o.p o.r o.w fault)
+
+-- what a refusal says of the words: the plan's of the cut, and any other that the texts are files
+abbrev pub IsOfWords : Options → Refusal → Type 0
+IsOfWords o (Plan fault) = IsOfCut o.part o fault
+IsOfWords o r = o.generated ≡ None

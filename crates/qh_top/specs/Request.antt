@@ -1,6 +1,7 @@
 -- How a request is answered.
-use Rattle.std.specs.Prelude.{◌≡◌, ℕ, ◌<◌, ◌≤◌, ◌⊎◌, List, length, Some, None, Option, IfSome, take}
+use Rattle.std.specs.Prelude.{◌≡◌, ℕ, ◌<◌, ◌≤◌, ◌⊎◌, List, length, Some, None, Option, IsSomeAnd, take}
 use Rattle.std.specs.Io.KnownBytes.{Appends}
+use Rattle.qh_limits.specs.Limits.{max_uncut_qubits}
 use Rattle.qh_gates.specs.Circuits.{Circuit}
 use Rattle.qh_gates.specs.Evolution.{IsUncutOver}
 use Rattle.qh_plan.specs.Jobs.{Job}
@@ -10,9 +11,9 @@ use Rattle.qh_meaning.specs.Values.{run_value}
 use Rattle.qh_words.specs.declared.options.Options.{Options}
 use Rattle.qh_words.specs.declared.size.GenSize.{GenSize}
 use Rattle.qh_top.specs.Seen.{Seen, Rises}
-use Rattle.qh_top.specs.Inputs.{IsCircuitFile, IsBitsFile, IsGenerated, IsInput}
+use Rattle.qh_top.specs.Inputs.{IsCircuitFile, IsBitsFile, IsGenerated, IsInput, asked_strings}
 use Rattle.qh_top.specs.Answer.{IsAnswer, IsPlannedJob}
-use Rattle.qh_top.specs.Refusals.{PlanRefuses, Refuses}
+use Rattle.qh_top.specs.Refusals.{PlanRefuses, Refuses, RefusesAll, SourceRises}
 use Rattle.qh_top.specs.declared.stop.Refusal.{Refusal}
 
 -- what is asked for went to a sink: all of it, or a front
@@ -21,7 +22,7 @@ pub record Prints (o : Options) (circuit bits out : Seen) (front : List ℕ → 
   pub indices : List ℕ
   pub input : IsInput o.generated o.max_time circuit bits value indices
   pub text : List ℕ
-  pub answer : IsAnswer o value indices text
+  pub answer : IsAnswer o value (asked_strings o.generated o.max_time circuit bits value indices input) text
   pub went : Appends out.before out.after (front text)
 
 -- the sink failed behind the first n bytes of the text
@@ -34,7 +35,7 @@ pub record OverflowsAt (o : Options) (circuit bits : Seen) (gate : ℕ) : Type 0
   pub indices : List ℕ
   pub input : IsInput o.generated o.max_time circuit bits value indices
   pub uncut : o.part ≡ None
-  pub narrow : value.qubits ≤ 16
+  pub narrow : value.qubits ≤ max_uncut_qubits
   pub over : IsUncutOver value gate
 
 -- cut, the run's value is over with this path
@@ -48,14 +49,21 @@ pub record OverflowsOn (o : Options) (circuit bits : Seen) (path : ℕ) : Type 0
   pub planned : IsPlannedJob o part value indices job
   pub over : run_value job ≡ Over path
 
--- the request has this input: two accepted files, or a size
-abbrev pub HasInput : Option GenSize → ℕ → List ℕ → List ℕ → Circuit → List ℕ → Type 0
-HasInput None T circuit bits c xs = IsCircuitFile T c circuit × IsBitsFile c xs bits
+-- the request has this input: two accepted files, as the sources tell, or a size
+abbrev pub HasInput : Option GenSize → ℕ → Option (List ℕ) → Option (List ℕ) → Circuit → List ℕ → Type 0
+HasInput None T circuit bits c xs = IsSomeAnd circuit (IsCircuitFile T c) × IsSomeAnd bits (IsBitsFile c xs)
 HasInput (Some size) T circuit bits c xs = IsGenerated size c xs
 
--- how words are answered where no fault came: o is what they ask for
-pub record Answers (o : Option Options) (circuit bits : List ℕ) (status : ℕ) : Type 0 where
+-- a count of what words call on rose: a source that they read, or the output; words that are no request call on nothing
+abbrev pub FaultCame : Option Options → Seen → Seen → Seen → Type 0
+FaultCame None circuit bits out = ⊥
+FaultCame (Some o) circuit bits out = SourceRises o.generated circuit bits ⊎ Rises out
+
+-- How words are answered where no fault came: o is what they ask for, and the sources held this, as far as they tell. A
+-- refusal that rests on the words alone, and a generated circuit, ask nothing of what the sources tell.
+pub record Answers (o : Option Options) (circuit bits : Option (List ℕ)) (status : ℕ) : Type 0 where
   pub usage : o ≡ None → (status ≡ 1) ⊎ (status ≡ 7)
-  pub refused : (p : Options) → o ≡ Some p → (r : Refusal) → Refuses (λ known P. IfSome known P) p r (Some circuit) (Some bits) → (status ≡ 2) ⊎ (status ≡ 7)
+  pub refused : (p : Options) → o ≡ Some p → (r : Refusal) → Refuses (λ known P. IsSomeAnd known P) p r circuit bits → (status ≡ 2) ⊎ (status ≡ 7)
+  pub refused_by_words : (p : Options) → o ≡ Some p → RefusesAll p → (status ≡ 2) ⊎ (status ≡ 7)
   pub accepted : (p : Options) → o ≡ Some p → (c : Circuit) (xs : List ℕ) → HasInput p.generated p.max_time circuit bits c xs
       → ((fault : PlanFault) → PlanRefuses p c xs fault → ⊥) → (status ≡ 0) ⊎ ((status ≡ 3) ⊎ (status ≡ 7))

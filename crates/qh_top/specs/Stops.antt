@@ -17,7 +17,7 @@ use Rattle.qh_top.specs.declared.stop.Input.TheVariants.{OfCircuit, OfBits}
 use Rattle.qh_top.specs.declared.stop.Stop.{Stop}
 use Rattle.qh_top.specs.declared.stop.Stop.TheVariants.{Usage, Refused, OverflowGate, OverflowPath, ReadFault, WriteFault, Memory}
 use Rattle.qh_top.specs.Inputs.{IsCircuitFile}
-use Rattle.qh_top.specs.Refusals.{Refuses}
+use Rattle.qh_top.specs.Refusals.{Refuses, IsOfWords}
 use Rattle.qh_top.specs.Request.{Cut, OverflowsAt, OverflowsOn}
 
 abbrev pub status_of : Stop → ℕ
@@ -111,7 +111,7 @@ message_of Memory = codes "out of memory\n"
 -- when the call may stop so, by the options
 abbrev pub MayStopBy : Options → Seen → Seen → Seen → Stop → Type 0
 MayStopBy o circuit bits out Usage = ⊥
-MayStopBy o circuit bits out (Refused r) = Refuses (λ known P. IfSome known P) o r circuit.before bits.before
+MayStopBy o circuit bits out (Refused r) = IsOfWords o r × Refuses (λ known P. IfSome known P) o r circuit.before bits.before
 MayStopBy o circuit bits out (OverflowGate gate) = OverflowsAt o circuit bits gate
 MayStopBy o circuit bits out (OverflowPath path) = OverflowsOn o circuit bits path
 MayStopBy o circuit bits out (ReadFault OfCircuit) = (o.generated ≡ None) × Rises circuit

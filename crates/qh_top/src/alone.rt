@@ -1,14 +1,13 @@
 //! The call that the program makes.
 ghost use Rattle.std.specs.Prelude.{◌≡◌, ◌≢◌, ◌≤◌, ◌<◌, ◌⊎◌, ℕ, List, Err, Some, None, IfErr, OnOk, IfSome, IsSomeAnd, map};
 ghost use Rattle.std.specs.String.{string_bytes};
-ghost use Rattle.qh_io.specs.Causes.{Rose};
 ghost use Rattle.qh_words.specs.Request.{options_of};
 ghost use Rattle.qh_words.specs.Size.{IsGenSize};
 ghost use Rattle.qh_words.specs.declared.options.Options.{Options as OptionsValue};
 ghost use Rattle.qh_words.specs.declared.size.GenSize.{GenSize as Size};
 ghost use Rattle.qh_top.specs.Seen.{seen};
-ghost use Rattle.qh_top.specs.Refusals.{Refuses, Reading};
-ghost use Rattle.qh_top.specs.Request.{Prints, Answers};
+ghost use Rattle.qh_top.specs.Refusals.{Refuses, Reading, RefusesAll, SourceRises};
+ghost use Rattle.qh_top.specs.Request.{Prints, Answers, FaultCame};
 ghost use Rattle.qh_top.specs.declared.stop.Refusal.{Refusal as RefusalValue};
 ghost use Rattle.qh_top.specs.Stops.{status_of, MayStopBy, MayStop, Says, Stops};
 
@@ -104,9 +103,13 @@ pub fn qsimh_alone<C: Source, B: Source, O: Sink, E: Sink>(
     ensures usage { options_of (map string_bytes words.now) ≡ None → (result ≡ 1) ⊎ (result ≡ 7) }
     ensures usage_only { result ≡ 1 → options_of (map string_bytes words.now) ≡ None }
 
-    // A request that is refused gives 2, or want of memory, or a read fault.
+    // A request that is refused gives 2, or want of memory, or a read fault; so does one whose words alone are refused,
+    // as by a part 1 that is no list of numbers, over sources that tell nothing too.
     ensures refused { (o : OptionsValue) (r : RefusalValue) → options_of (map string_bytes words.now) ≡ Some o → Refuses (λ known P. IsSomeAnd known P) o r (C.left circuit.old) (B.left bits.old)
         → (result ≡ 2) ⊎ ((result ≡ 7) ⊎ ((result ≡ 4) × Reading o (seen C.left C.faults circuit.old circuit.new) (seen B.left B.faults bits.old bits.new) r)) }
+
+    ensures refused_by_words { (o : OptionsValue) → options_of (map string_bytes words.now) ≡ Some o → RefusesAll o
+        → (result ≡ 2) ⊎ ((result ≡ 7) ⊎ ((result ≡ 4) × SourceRises o.generated (seen C.left C.faults circuit.old circuit.new) (seen B.left B.faults bits.old bits.new))) }
 
     // Without a request, or with a generated circuit, nothing is read; no count falls.
     ensures unread { result ≡ 1 → (circuit.new ≡ circuit.old) × (bits.new ≡ bits.old) }
@@ -115,8 +118,8 @@ pub fn qsimh_alone<C: Source, B: Source, O: Sink, E: Sink>(
         × (O.faults out.old ≤ O.faults out.new) × (E.faults err.old ≤ E.faults err.new) }
 
     // Where no fault came, the request is answered as it is.
-    ensures complete { (Rose (C.faults circuit.old) (C.faults circuit.new) → ⊥) → (Rose (B.faults bits.old) (B.faults bits.new) → ⊥) → (Rose (O.faults out.old) (O.faults out.new) → ⊥)
-        → IfSome (C.left circuit.old) (λ c. IfSome (B.left bits.old) (λ b. Answers (options_of (map string_bytes words.now)) c b result)) }
+    ensures complete { (FaultCame (options_of (map string_bytes words.now)) (seen C.left C.faults circuit.old circuit.new) (seen B.left B.faults bits.old bits.new) (seen O.held O.faults out.old out.new) → ⊥)
+        → Answers (options_of (map string_bytes words.now)) (C.left circuit.old) (B.left bits.old) result }
 {
     match run(alloc, words, circuit, bits, out) {
         Ok(()) => 0,

@@ -3,24 +3,25 @@ ghost use Rattle.std.specs.Prelude.{◌≡◌, ◌≤◌, ◌<◌, ◌++◌, Som
 ghost use Rattle.std.specs.Arc.{arc_value};
 ghost use Rattle.qh_ring.specs.Numbers.{IsWithin};
 ghost use Rattle.qh_ring.specs.States.{at_index};
+ghost use Rattle.qh_limits.specs.Limits.{max_uncut_qubits, coefficient_bits};
 ghost use Rattle.qh_gates.specs.Circuits.{total_weight};
 ghost use Rattle.qh_gates.specs.Evolution.{uncut, NeverOver};
 ghost use Rattle.qh_plan.specs.Plans.{AreBits};
 ghost use Rattle.qh_meaning.specs.Laws.{NoneOver};
-ghost use Rattle.qh_print.specs.Output.{word_of};
 ghost use Rattle.qh_solve.specs.Solved.{IsAskedText};
-ghost use Rattle.qh_top.specs.Answer.{IsPlannedJob, IsJobText, IsUncutAnswer, IsCutAnswer, IsAnswer, gen_line, head_text};
+ghost use Rattle.qh_top.specs.Answer.{IsPlannedJob, gen_line, head_text};
+ghost use Rattle.qh_top.specs.Indexed.{IsPathsText, IsUncutText, IsCutText, IsIndexed};
 ghost use Rattle.qh_top.specs.Refusals.{PlanRefusesBy};
 ghost use Rattle.qh_top.specs.Parts.{UncutMayStop, PlanMayStop, JobMayStop, CutMayStop, AnswerMayStop};
 
 use crate::stop::Stop;
-use itoa::Buffer;
 use qh_gates::Circuit;
 use qh_plan::{Job, check_uncut, plan, read_part};
-use qh_print::Lines;
+use qh_print::{Lines, lines_of};
 use qh_ring::Omega;
-use qh_solve::{Solved, lines_of, solve};
+use qh_solve::{Solved, solve};
 use qh_steps::Steps;
+use qh_text::push_word;
 use qh_uncut::{UncutFault, evolve};
 use qh_words::{GenSize, Options};
 use std::alloc::{AllocError, Global};
@@ -31,9 +32,9 @@ use std::sync::ledger::{Blank, Ledger};
 /// The numbers at these indices of a list.
 fn values_at(alloc: Global, numbers: &[Omega], indices: &[u64]) -> Result<Vec<Omega>, AllocError>
     requires below { All (λ x. x < length numbers.now) indices.now }
-    requires bounded { All (IsWithin 126) numbers.now }
+    requires bounded { All (IsWithin coefficient_bits) numbers.now }
     ensures values { IfOk result (λ v. v.items ≡ map (at_index numbers.now) indices.now) }
-    ensures within { IfOk result (λ v. All (IsWithin 126) v.items) }
+    ensures within { IfOk result (λ v. All (IsWithin coefficient_bits) v.items) }
 {
     let mut values = Vec::new(alloc);
     for index in indices {
@@ -45,10 +46,10 @@ fn values_at(alloc: Global, numbers: &[Omega], indices: &[u64]) -> Result<Vec<Om
 /// The amplitudes of an uncut circuit at these indices.
 fn uncut_values(alloc: Global, circuit: &Circuit, indices: &[u64]) -> Result<Vec<Omega>, Stop>
     requires { AreBits circuit.now.qubits indices.now }
-    ensures narrow { OnOk result (circuit.now.qubits ≤ 16) }
+    ensures narrow { OnOk result (circuit.now.qubits ≤ max_uncut_qubits) }
     ensures never { OnOk result (NeverOver circuit.now) }
     ensures values { IfOk result (λ v. v.items ≡ map (uncut circuit.now.gates) indices.now) }
-    ensures within { IfOk result (λ v. All (IsWithin 126) v.items) }
+    ensures within { IfOk result (λ v. All (IsWithin coefficient_bits) v.items) }
     ensures cause { IfErr result (UncutMayStop circuit.now) }
 {
     if let Err(fault) = check_uncut(circuit) {
@@ -65,15 +66,6 @@ fn uncut_values(alloc: Global, circuit: &Circuit, indices: &[u64]) -> Result<Vec
     }
 }
 
-/// Appends a space and the number.
-fn push_number(text: &mut Vec<u8>, number: u32) -> Result<(), AllocError>
-    ensures { OnOk result (text.new.items ≡ text.old.items ++ word_of (decimal number)) }
-{
-    let mut buffer = Buffer::new();
-    text.push(b' ')?;
-    text.extend_from_slice(buffer.format(number).as_bytes())
-}
-
 /// The first line of a generated circuit.
 #[tactic(auto, unfolding(crate::specs::Answer::gen_line))]
 fn gen_line(
@@ -86,11 +78,11 @@ fn gen_line(
 {
     let mut text = Vec::new(alloc);
     text.extend_from_slice(b"gen")?;
-    push_number(&mut text, circuit.qubits())?;
-    push_number(&mut text, circuit.gates().len() as u32)?;
-    push_number(&mut text, circuit.weight())?;
-    push_number(&mut text, crossing)?;
-    push_number(&mut text, ranges)?;
+    push_word(&mut text, circuit.qubits())?;
+    push_word(&mut text, circuit.gates().len() as u32)?;
+    push_word(&mut text, circuit.weight())?;
+    push_word(&mut text, crossing)?;
+    push_word(&mut text, ranges)?;
     text.push(b'\n')?;
     Ok(text)
 }
@@ -128,7 +120,7 @@ fn uncut_answer(
     indices: &[u64],
 ) -> Result<Vec<u8>, Stop>
     requires { AreBits circuit.now.qubits indices.now }
-    ensures answer { IfOk result (λ text. IsUncutAnswer generated circuit.now indices.now text.items) }
+    ensures answer { IfOk result (λ text. IsUncutText generated circuit.now indices.now text.items) }
     ensures cause { IfErr result (UncutMayStop circuit.now) }
 {
     let values = match uncut_values(alloc, circuit, indices) {
@@ -185,7 +177,7 @@ fn job_lines<L: Ledger>(alloc: Global, blank: Blank, job: &Arc<Job>) -> Result<L
 /// The text of a job.
 fn job_answer(alloc: Global, generated: Option<GenSize>, job: Job) -> Result<Vec<u8>, Stop>
     ensures none { OnOk result (NoneOver job) }
-    ensures text { IfOk result (λ text. IsJobText generated job text.items) }
+    ensures text { IfOk result (λ text. IsPathsText generated job text.items) }
     ensures cause { IfErr result (JobMayStop job) }
 {
     let Ok(job) = Arc::new(alloc, job) else {
@@ -214,7 +206,7 @@ fn cut_answer(
     indices: Vec<u64>,
 ) -> Result<Vec<u8>, Stop>
     requires { AreBits circuit.qubits indices.items }
-    ensures answer { IfOk result (λ text. IsCutAnswer options.now part.now circuit indices.items text.items) }
+    ensures answer { IfOk result (λ text. IsCutText options.now part.now circuit indices.items text.items) }
     ensures cause { IfErr result (CutMayStop options.now part.now circuit indices.items) }
 {
     match planned(alloc, options, part, circuit, indices) {
@@ -231,7 +223,7 @@ pub(crate) fn answer(
     indices: Vec<u64>,
 ) -> Result<Vec<u8>, Stop>
     requires { AreBits circuit.qubits indices.items }
-    ensures answer { IfOk result (λ text. IsAnswer options.now circuit indices.items text.items) }
+    ensures answer { IfOk result (λ text. IsIndexed options.now circuit indices.items text.items) }
     ensures cause { IfErr result (AnswerMayStop options.now.part options.now circuit indices.items) }
 {
     match &options.part {

@@ -1,6 +1,7 @@
 //! Takes the circuit and the basis indices of a request.
 ghost use Rattle.std.specs.Prelude.{◌≡◌, ◌≤◌, ◌<◌, ◌^◌, ℕ, List, Some, IfOk, IfErr, IfSome, length, All, min};
-ghost use Rattle.qh_io.specs.Causes.{Rose};
+ghost use Rattle.qh_limits.specs.Limits.{max_qubits, max_bitstrings};
+ghost use Rattle.qh_counts.specs.Counts.{Rose};
 ghost use Rattle.qh_io.specs.Reading.{IsReadWhole};
 ghost use Rattle.qh_plan.specs.Plans.{AreBits};
 ghost use Rattle.qh_words.specs.Size.{IsGenSize};
@@ -15,13 +16,9 @@ use qh_circuit::{CircuitFault, read_circuit};
 use qh_gates::Circuit;
 use qh_gen::generate;
 use qh_io::{ReadAllFault, Source, read_all};
+use qh_limits::{MAX_BITS_BYTES, MAX_CIRCUIT_BYTES};
 use qh_words::{GenSize, Options};
 use std::alloc::{AllocError, Global};
-
-/// The most bytes of a circuit text.
-const MAX_CIRCUIT: usize = 1 << 20;
-/// The most bytes of a bitstring text.
-const MAX_BITS: usize = 1 << 18;
 
 /// Reads the circuit: its gates up to this time.
 fn take_circuit<C: Source>(alloc: Global, time: u32, circuit: &mut C) -> Result<Circuit, Stop>
@@ -29,7 +26,7 @@ fn take_circuit<C: Source>(alloc: Global, time: u32, circuit: &mut C) -> Result<
     ensures ok { IfOk result (λ c. (bytes : List ℕ) × IsReadWhole (C.left circuit.old) (C.left circuit.new) bytes × IsCircuitFile time c bytes) }
     ensures err { IfErr result (CircuitMayStop time (C.left circuit.old) (Rose (C.faults circuit.old) (C.faults circuit.new))) }
 {
-    let bytes = match read_all(alloc, circuit, MAX_CIRCUIT) {
+    let bytes = match read_all(alloc, circuit, MAX_CIRCUIT_BYTES) {
         Ok(bytes) => bytes,
         Err(ReadAllFault::Fault) => return Err(Stop::ReadFault(Input::OfCircuit)),
         Err(ReadAllFault::TooLong) => return Err(Stop::Refused(Refusal::CircuitTooLong)),
@@ -49,10 +46,10 @@ fn take_bits<B: Source>(alloc: Global, bits: &mut B, circuit: &Circuit) -> Resul
     ensures later { B.faults bits.old ≤ B.faults bits.new }
     ensures ok { IfOk result (λ v. (bytes : List ℕ) × IsReadWhole (B.left bits.old) (B.left bits.new) bytes × IsBitsFile circuit.now v.items bytes) }
     ensures below { IfOk result (λ v. All (λ x. x < 2 ^ circuit.now.qubits) v.items) }
-    ensures count { IfOk result (λ v. (1 ≤ length v.items) × (length v.items ≤ 4096)) }
+    ensures count { IfOk result (λ v. (1 ≤ length v.items) × (length v.items ≤ max_bitstrings)) }
     ensures err { IfErr result (BitsMayStop circuit.now (B.left bits.old) (Rose (B.faults bits.old) (B.faults bits.new))) }
 {
-    let bytes = match read_all(alloc, bits, MAX_BITS) {
+    let bytes = match read_all(alloc, bits, MAX_BITS_BYTES) {
         Ok(bytes) => bytes,
         Err(ReadAllFault::Fault) => return Err(Stop::ReadFault(Input::OfBits)),
         Err(ReadAllFault::TooLong) => return Err(Stop::Refused(Refusal::BitsTooLong)),
@@ -90,7 +87,7 @@ fn take_files<C: Source, B: Source>(
 
 /// The first indices of so many qubits, at most eight.
 fn first_indices(alloc: Global, qubits: u32) -> Result<Vec<u64>, AllocError>
-    requires { qubits ≤ 40 }
+    requires { qubits ≤ max_qubits }
     ensures { IfOk result (λ v. v.items ≡ first_indices qubits) }
 {
     let count = (1u64 << qubits).min(8);

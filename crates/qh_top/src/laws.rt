@@ -1,10 +1,17 @@
 //! Laws between the definitions, each the contract of a call that does nothing.
-ghost use Rattle.std.specs.Prelude.{◌≡◌, ℕ, List};
+ghost use Rattle.std.specs.Prelude.{◌≡◌, ℕ, List, Some};
 ghost use Rattle.qh_gates.specs.Circuits.{Circuit as CircuitValue};
+ghost use Rattle.qh_plan.specs.Items.{items_of, IsFirstBad};
 ghost use Rattle.qh_words.specs.declared.options.Options.{Options as OptionsValue};
 ghost use Rattle.qh_top.specs.Answer.{IsAnswer};
+ghost use Rattle.qh_top.specs.Refusals.{RefusesAll};
 
-/// Options, a circuit and basis indices ask for one text.
+/// Options, a circuit and strings ask for one text.
 pub fn one_answer()
-    ensures { (o : OptionsValue) (c : CircuitValue) (xs s t : List ℕ) → IsAnswer o c xs s → IsAnswer o c xs t → s ≡ t }
+    ensures { (o : OptionsValue) (c : CircuitValue) (strings : List (List ℕ)) (s t : List ℕ) → IsAnswer o c strings s → IsAnswer o c strings t → s ≡ t }
+{}
+
+/// A text of part 1 that is no list of numbers is refused, whatever the circuit and the bitstrings.
+pub fn bad_part_is_refused()
+    ensures { (o : OptionsValue) (part : List ℕ) (item : ℕ) → o.part ≡ Some part → IsFirstBad (items_of part) item → RefusesAll o }
 {}

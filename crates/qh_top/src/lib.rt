@@ -16,6 +16,6 @@ mod stop;
 mod tests;
 
 pub use alone::qsimh_alone;
-pub use laws::one_answer;
+pub use laws::{bad_part_is_refused, one_answer};
 pub use names::{Names, file_names};
 pub use qh_words::{Text, WordsFault};

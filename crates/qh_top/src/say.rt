@@ -1,7 +1,7 @@
 //! What the call says on the error sink. It takes no memory.
 ghost use Rattle.std.specs.Prelude.{◌≡◌, ◌++◌, ◌∷◌, [], true, false, decimal, codes};
 ghost use Rattle.std.specs.Io.KnownBytes.{Appends};
-ghost use Rattle.qh_io.specs.Causes.{Rose};
+ghost use Rattle.qh_counts.specs.Counts.{Rose};
 ghost use Rattle.qh_top.specs.Seen.{seen};
 ghost use Rattle.qh_top.specs.Stops.{message_of, refusal_line, plan_name, plan_number, number_text, circuit_why, bits_why, fault_line, Says};
 

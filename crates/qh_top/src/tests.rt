@@ -112,53 +112,34 @@ fn check(rt: &(impl Abort + AllocGlobal), row: &Row) -> Result<(), Fail> {
 
 #[test]
 fn amplitudes(rt: HostRuntime) -> Result<(), Fail> {
-    check(&rt, &good(b"1\n", b"0\n", b"0 1 0 0 0 0\n"))?;
-    check(
-        &rt,
-        &good(b"1\n0 h 0\n", b"0\n1\n", b"0 1 0 0 0 1\n1 1 0 0 0 1\n"),
-    )?;
-    check(
-        &rt,
-        &good(b"1\n0 hz_1_2 0\n", b"0\n1\n", b"0 0 1 0 0 1\n1 1 0 0 0 1\n"),
-    )?;
-    check(
-        &rt,
-        &good(b"2\n0 h 0\n0 h 1\n1 cz 0 1\n", b"11\n", b"11 -1 0 0 0 2\n"),
-    )?;
-    check(
-        &rt,
-        &good(b"2\n0 x 0\n1 is 0 1\n", b"01\n", b"01 0 0 1 0 0\n"),
-    )?;
-    check(
-        &rt,
-        &good(b"2\n0 id2 0 1\n1 x 0\n", b"10\n", b"10 1 0 0 0 0\n"),
-    )?;
-    // A circuit as files of random circuits have it.
-    check(
-        &rt,
-        &good(
+    for row in [
+        good(b"1\n", b"0\n", b"0 1 0 0 0 0\n"),
+        good(b"1\n0 h 0\n", b"0\n1\n", b"0 1 0 0 0 1\n1 1 0 0 0 1\n"),
+        good(b"1\n0 hz_1_2 0\n", b"0\n1\n", b"0 0 1 0 0 1\n1 1 0 0 0 1\n"),
+        good(b"2\n0 h 0\n0 h 1\n1 cz 0 1\n", b"11\n", b"11 -1 0 0 0 2\n"),
+        good(b"2\n0 x 0\n1 is 0 1\n", b"01\n", b"01 0 0 1 0 0\n"),
+        good(b"2\n0 id2 0 1\n1 x 0\n", b"10\n", b"10 1 0 0 0 0\n"),
+        // A circuit as files of random circuits have it.
+        good(
             b"2\n0 h 0\n0 h 1\n1 cz 0 1\n2 t 0\n2 x_1_2 1\n3 h 0\n3 h 1\n",
             b"00\n10\n01\n11\n",
             b"00 1 0 0 0 2\n10 1 0 0 0 2\n01 0 0 0 1 2\n11 0 0 0 -1 2\n",
         ),
-    )?;
-    check(
-        &rt,
-        &good(
+        good(
             b"2\n0 h 0\n1 s 0\n2 sw 0 1\n",
             b"00\n10\n01\n11\n",
             b"00 1 0 0 0 1\n10 0 0 0 0 0\n01 0 0 1 0 1\n11 0 0 0 0 0\n",
         ),
-    )?;
-    // Bell, as people write it. Bitstrings are answered in their order, repeats included; the first character is qubit 0.
-    check(
-        &rt,
-        &good(
+        // Bell, as people write it. Bitstrings are answered in their order, repeats included; the first character is qubit 0.
+        good(
             b"# a\r\n2\r\n\r\n 0 h 0 \r\n1\tcnot 0 1",
             b"00\n10\n# none\n 01 \n11\n00",
             b"00 1 0 0 0 1\n10 0 0 0 0 0\n01 0 0 0 0 0\n11 1 0 0 0 1\n00 1 0 0 0 1\n",
         ),
-    )
+    ] {
+        check(&rt, &row)?;
+    }
+    Ok(())
 }
 
 /// With and without the greatest time.
@@ -180,111 +161,74 @@ fn greatest_time(rt: HostRuntime) -> Result<(), Fail> {
 
 #[test]
 fn refusals(rt: HostRuntime) -> Result<(), Fail> {
-    check(
-        &rt,
-        &refused(
+    for row in [
+        refused(
             b"2\n0 h 0\n0 cz 0 1\n",
             b"00\n",
             b"refused: circuit line 3: Overlap\n",
         ),
-    )?;
-    check(
-        &rt,
-        &refused(
+        refused(
             b"2\n1 h 0\n0 h 1\n",
             b"00\n",
             b"refused: circuit line 3: TimeBack\n",
         ),
-    )?;
-    check(
-        &rt,
-        &refused(
+        refused(
             b"1\n3 rx 0 0.5\n",
             b"0\n",
             b"refused: circuit line 2: UnknownGate\n",
         ),
-    )?;
-    check(
-        &rt,
-        &refused(b"", b"0\n", b"refused: circuit line 0: NoCount\n"),
-    )?;
-    check(
-        &rt,
-        &refused(b"41\n", b"0\n", b"refused: circuit line 1: BadCount\n"),
-    )?;
-    check(
-        &rt,
-        &refused(
+        refused(b"", b"0\n", b"refused: circuit line 0: NoCount\n"),
+        refused(b"41\n", b"0\n", b"refused: circuit line 1: BadCount\n"),
+        refused(
             b"2\nx h 0\n",
             b"00\n",
             b"refused: circuit line 2: BadTime\n",
         ),
-    )?;
-    check(
-        &rt,
-        &refused(
+        refused(
             b"2\n0 h 2\n",
             b"00\n",
             b"refused: circuit line 2: BadQubit\n",
         ),
-    )?;
-    check(
-        &rt,
-        &refused(
+        refused(
             b"2\n0 cz 1 1\n",
             b"00\n",
             b"refused: circuit line 2: SameQubit\n",
         ),
-    )?;
-    check(
-        &rt,
-        &refused(
+        refused(
             b"2\n0 h 0 1\n",
             b"00\n",
             b"refused: circuit line 2: Extra\n",
         ),
-    )?;
-    check(
-        &rt,
-        &refused(
+        refused(
             b"2\n0 h 0\n",
             b"00\n1\n",
             b"refused: bitstrings line 2: Length\n",
         ),
-    )?;
-    check(
-        &rt,
-        &refused(
+        refused(
             b"2\n0 h 0\n",
             b"0a\n",
             b"refused: bitstrings line 1: Letter\n",
         ),
-    )?;
-    check(
-        &rt,
-        &refused(
+        refused(
             b"2\n0 h 0\n",
             b"",
             b"refused: bitstrings line 0: NoStrings\n",
         ),
-    )?;
-    // A circuit that is too wide is refused once both texts are accepted.
-    check(
-        &rt,
-        &refused(
+        // A circuit that is too wide is refused once both texts are accepted.
+        refused(
             b"17\n0 h 0\n",
             b"00000000000000000\n",
             b"refused: plan: UncutTooWide 17\n",
         ),
-    )?;
-    check(
-        &rt,
-        &refused(
+        refused(
             b"17\n0 h 0\n",
             b"0\n",
             b"refused: bitstrings line 1: Length\n",
         ),
-    )
+    ] {
+        check(&rt, &row)?;
+    }
+    Ok(())
 }
 
 /// A circuit with this first line and this many Hadamard gates on qubit 0.
@@ -318,55 +262,47 @@ fn overflow_of_a_path(rt: HostRuntime) -> Result<(), Fail> {
 
 #[test]
 fn faults(rt: HostRuntime) -> Result<(), Fail> {
-    check(
-        &rt,
-        &faulty([&[1], &[], &[], &[]], 4, b"", b"read fault: circuit\n"),
-    )?;
-    check(
-        &rt,
-        &faulty([&[], &[2], &[], &[]], 4, b"", b"read fault: bitstrings\n"),
-    )?;
-    check(
-        &rt,
-        &faulty(
+    for row in [
+        faulty([&[1], &[], &[], &[]], 4, b"", b"read fault: circuit\n"),
+        faulty([&[], &[2], &[], &[]], 4, b"", b"read fault: bitstrings\n"),
+        faulty(
             [&[], &[], &[2], &[]],
             6,
             b"0 1 0 0 0 ",
             b"write fault after 10 bytes\n",
         ),
-    )?;
-    check(
-        &rt,
-        &faulty(
+        faulty(
             [&[], &[], &[1], &[]],
             6,
             b"",
             b"write fault after 0 bytes\n",
         ),
-    )?;
-    // A fault of the error sink changes no status.
-    check(
-        &rt,
-        &faulty([&[], &[], &[1], &[3]], 6, b"", b"write fault af"),
-    )
+        // A fault of the error sink changes no status.
+        faulty([&[], &[], &[1], &[3]], 6, b"", b"write fault af"),
+    ] {
+        check(&rt, &row)?;
+    }
+    Ok(())
 }
 
 #[test]
 fn usage(rt: HostRuntime) -> Result<(), Fail> {
-    check(&rt, &misused(&[]))?;
-    check(&rt, &misused(&["-c", "a", "-i", "b", "-d"]))?;
-    check(&rt, &misused(&["-c", "a", "-i", "b", "-d", "4294967296"]))?;
-    check(&rt, &misused(&["-c", "a", "-i", "b", "-d", "-1"]))?;
-    check(&rt, &misused(&["-c", "a", "-i", "b", "-e", "1"]))?;
-    check(&rt, &misused(&["-c", "a", "-i", "b", "-c", "a"]))?;
-    check(&rt, &misused(&["-c", "a", "-i", "b", "-p", "1"]))?;
-    check(
-        &rt,
-        &misused(&["-c", "a", "-i", "b", "-k", "0", "-t", "17"]),
-    )?;
-    check(&rt, &misused(&["-c", "a", "-i", "b", "-g", "1,1,1,1"]))?;
-    check(&rt, &misused(&["-c", "a"]))?;
-    check(&rt, &misused(&["--help"]))
+    for row in [
+        misused(&[]),
+        misused(&["-c", "a", "-i", "b", "-d"]),
+        misused(&["-c", "a", "-i", "b", "-d", "4294967296"]),
+        misused(&["-c", "a", "-i", "b", "-d", "-1"]),
+        misused(&["-c", "a", "-i", "b", "-e", "1"]),
+        misused(&["-c", "a", "-i", "b", "-c", "a"]),
+        misused(&["-c", "a", "-i", "b", "-p", "1"]),
+        misused(&["-c", "a", "-i", "b", "-k", "0", "-t", "17"]),
+        misused(&["-c", "a", "-i", "b", "-g", "1,1,1,1"]),
+        misused(&["-c", "a"]),
+        misused(&["--help"]),
+    ] {
+        check(&rt, &row)?;
+    }
+    Ok(())
 }
 
 /// Bell with these words behind its files.
@@ -397,52 +333,39 @@ const fn two(words: &'static [&'static str], out: &'static [u8]) -> Row {
 
 #[test]
 fn cuts(rt: HostRuntime) -> Result<(), Fail> {
-    check(&rt, &bell(&["-c", "a", "-i", "b", "-k", "0"]))?;
-    check(&rt, &bell(&["-k", "1", "-i", "b", "-c", "a"]))?;
-    check(
-        &rt,
-        &bell(&["-c", "a", "-i", "b", "-k", "0", "-p", "0", "-r", "1"]),
-    )?;
-    check(
-        &rt,
-        &Row {
+    for row in [
+        bell(&["-c", "a", "-i", "b", "-k", "0"]),
+        bell(&["-k", "1", "-i", "b", "-c", "a"]),
+        bell(&["-c", "a", "-i", "b", "-k", "0", "-p", "0", "-r", "1"]),
+        Row {
             circuit: b"2\n0 x 0\n1 is 0 1\n",
             bits: b"01\n",
             out: b"01 0 0 1 0 0\n",
             ..bell(&["-c", "a", "-i", "b", "-k", "0"])
         },
-    )?;
-    // No gate crosses: one path in one range.
-    check(
-        &rt,
-        &Row {
+        // No gate crosses: one path in one range.
+        Row {
             circuit: b"2\n0 h 0\n",
             bits: b"00\n",
             out: b"00 1 0 0 0 1\n",
             ..bell(&["-c", "a", "-i", "b", "-k", "0"])
         },
-    )?;
-    check(
-        &rt,
-        &two(
+        two(
             &["-c", "a", "-i", "b", "-k", "0", "-p", "1", "-w", "0"],
             b"00 1 0 0 0 3\n10 1 0 0 0 3\n01 1 0 0 0 3\n11 -1 0 0 0 3\n",
         ),
-    )?;
-    check(
-        &rt,
-        &two(
+        two(
             &["-c", "a", "-i", "b", "-k", "0", "-p", "1", "-w", "1"],
             b"00 1 0 0 0 3\n10 -1 0 0 0 3\n01 -1 0 0 0 3\n11 -1 0 0 0 3\n",
         ),
-    )?;
-    check(
-        &rt,
-        &two(
+        two(
             &["-c", "a", "-i", "b", "-k", "0", "-p", "1"],
             b"00 1 0 0 0 1\n10 0 0 0 0 0\n01 0 0 0 0 0\n11 -1 0 0 0 1\n",
         ),
-    )
+    ] {
+        check(&rt, &row)?;
+    }
+    Ok(())
 }
 
 /// Bell with another part 1, which is refused.
@@ -457,70 +380,56 @@ const fn cut_refused(words: &'static [&'static str], err: &'static [u8]) -> Row 
 
 #[test]
 fn refused_cuts(rt: HostRuntime) -> Result<(), Fail> {
-    check(
-        &rt,
-        &cut_refused(
+    for row in [
+        cut_refused(
             &["-c", "a", "-i", "b", "-k", "0,,1"],
             b"refused: plan: PartText 1\n",
         ),
-    )?;
-    check(
-        &rt,
-        &cut_refused(
+        cut_refused(
             &["-c", "a", "-i", "b", "-k", "2"],
             b"refused: plan: NoSuchQubit 2\n",
         ),
-    )?;
-    check(
-        &rt,
-        &cut_refused(
+        cut_refused(
             &["-c", "a", "-i", "b", "-k", "0,0"],
             b"refused: plan: QubitTwice 0\n",
         ),
-    )?;
-    check(
-        &rt,
-        &cut_refused(
+        cut_refused(
             &["-c", "a", "-i", "b", "-k", "0,1"],
             b"refused: plan: EmptyPart\n",
         ),
-    )?;
-    check(
-        &rt,
-        &cut_refused(
+        cut_refused(
             &["-c", "a", "-i", "b", "-k", "0", "-p", "1", "-w", "2"],
             b"refused: plan: PrefixValue 2\n",
         ),
-    )?;
-    check(
-        &rt,
-        &cut_refused(
+        cut_refused(
             &["-c", "a", "-i", "b", "-k", "0", "-p", "2"],
             b"refused: plan: PrefixRoot 1\n",
         ),
-    )
+    ] {
+        check(&rt, &row)?;
+    }
+    Ok(())
 }
 
 #[test]
 fn generated(rt: HostRuntime) -> Result<(), Fail> {
-    check(
-        &rt,
-        &Row {
+    for row in [
+        Row {
             circuit: b"not read",
             bits: b"",
             out: b"gen 2 5 4 1 1\n00 1 0 0 0 2\n10 1 0 0 0 2\n01 1 0 0 0 2\n11 -1 0 0 0 2\n",
             ..bell(&["-g", "1,1,2,1", "-k", "0"])
         },
-    )?;
-    check(
-        &rt,
-        &Row {
+        Row {
             circuit: b"not read",
             bits: b"",
             out: b"gen 2 5 4 0 0\n00 1 0 0 0 2\n10 1 0 0 0 2\n01 1 0 0 0 2\n11 -1 0 0 0 2\n",
             ..bell(&["-g", "1,1,2,1"])
         },
-    )
+    ] {
+        check(&rt, &row)?;
+    }
+    Ok(())
 }
 
 /// All gates on three qubits, and on six with gates across each pair of neighbours.

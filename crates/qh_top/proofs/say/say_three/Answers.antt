@@ -1,6 +1,7 @@
 use Rattle.std.proofs.Common.{append_assoc, sym, subst}
 use Rattle.qh_top.specs.Stops.{Says}
-use Rattle.qh_top.proofs.Saying.{says_append, says_stop, rose_more}
+use Rattle.qh_counts.proofs.Chains.{rose_before}
+use Rattle.qh_top.proofs.Saying.{says_append, says_stop}
 use Rattle.qh_top.proofs.say.say_three.Goals as goal
 
 pub returns-then-not-say : goal.returns-then-not-say
@@ -12,7 +13,7 @@ pub returns-then-not-say-2 : goal.returns-then-not-say-2
 returns-then-not-say-2 g c =
     let rose = c.say-2.ensures.cause c.if-not-say-2.true in
     let two = says_append _ _ _ _ _ _ _ _ c.say.ensures.says.later (c.say.ensures.whole c.if-not-say.false) c.say-2.ensures.says in
-    says_stop _ _ _ _ _ c.args.third.now two (rose_more _ _ _ c.say.ensures.says.later rose)
+    says_stop _ _ _ _ _ c.args.third.now two (rose_before _ _ _ c.say.ensures.says.later rose)
 
 pub returns : goal.returns
 returns g c =
