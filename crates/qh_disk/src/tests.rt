@@ -116,14 +116,16 @@ fn the_planned_calls_fail_and_no_other(rt: HostRuntime) -> Result<(), Fail> {
     assert_eq!(rt; failed.as_slice(), want.as_slice());
 
     disk.again(Some(2), Some(3));
-    let first = disk.len();
-    let second = disk.len();
-    let third = disk.len();
-    let fourth = disk.len();
-    assert_eq!(rt; first, Ok(3));
-    assert_eq!(rt; second, Err(Failed { faults: 7 }));
-    assert_eq!(rt; third, Ok(3));
-    assert_eq!(rt; fourth, Err(Failed { faults: 8 }));
+    let answers = [
+        Ok(3),
+        Err(Failed { faults: 7 }),
+        Ok(3),
+        Err(Failed { faults: 8 }),
+    ];
+    for want in answers {
+        let answer = disk.len();
+        assert_eq!(rt; answer, want);
+    }
     Ok(())
 }
 

@@ -18,7 +18,8 @@ use std::rt::Files;
 
 /// A file, opened at the first write, or standard output. It tells nothing of what it holds.
 ///
-/// What stood in the file is replaced, at the first write and not before.
+/// What stood in the file is replaced, at the first write and not before. As far as files of `R` tell what they hold, as
+/// those of the system do not, a call answers a number only where the open file took so many bytes.
 #[derive(Drop)]
 pub struct FileSink<'r, R: Files + Print> {
     rt: &'r R,

@@ -17,6 +17,9 @@ use std::marker::Model;
 use std::rt::Files;
 
 /// A file, opened at the first read. It tells nothing of what is left.
+///
+/// As far as files of `R` tell what is left, as those of the system do not, a call answers a number only where the open
+/// file gave so many bytes, and 0 only at its end.
 #[derive(Drop)]
 pub struct FileSource<'r, R: Files> {
     rt: &'r R,

@@ -1,41 +1,74 @@
 //! A disk over a real file.
 use crate::{Disk, Failed, FileDisk};
 use std::fs;
+use std::fs::File;
+use std::process::Abort;
+use std::rt::Files;
 use std::test::Fail;
 
 const PATH: &str = "qh_disk_real_file";
+
+#[derive(Clone, Copy, Debug)]
+enum Call {
+    Length(u64),
+    SetLength(u64),
+    Write(u64, &'static [u8]),
+    Read(u64, &'static [u8]),
+    Sync,
+}
+
+// Makes one call, and compares the length or six bytes from an offset on.
+fn is_so<R: Files<File = File> + Sync>(
+    disk: &mut FileDisk<'_, R>,
+    call: Call,
+) -> Result<bool, Failed> {
+    match call {
+        Call::Length(want) => return Ok(disk.len()? == want),
+        Call::SetLength(length) => disk.set_len(length)?,
+        Call::Write(at, bytes) => disk.write_at(at, bytes)?,
+        Call::Read(at, want) => {
+            let mut bytes = [7; 6];
+            disk.read_at(at, &mut bytes)?;
+            return Ok(bytes.as_slice() == want);
+        }
+        Call::Sync => disk.sync()?,
+    }
+    Ok(true)
+}
+
+fn expect<R: Abort + AllocGlobal + Files<File = File> + Sync>(
+    rt: &R,
+    rows: &[(Call, Result<bool, Failed>)],
+) -> Result<(), Fail> {
+    let mut disk = FileDisk::new(rt, Some(PATH.to_string(rt.alloc())?));
+    for (call, want) in rows {
+        let answer = is_so(&mut disk, *call);
+        assert_eq!(rt; answer, *want, "{call:?}");
+    }
+    let mut second = FileDisk::new(rt, Some(PATH.to_string(rt.alloc())?));
+    let locked = second.len();
+    assert_eq!(rt; locked, Err(Failed { faults: 1 }), "the file is locked");
+    Ok(())
+}
 
 #[test]
 fn a_real_file_gives_back_what_was_written(rt: HostRuntime) -> Result<(), Fail> {
     fs::write(&rt, PATH, b"".as_slice())?;
     fs::remove_file(&rt, PATH)?;
-    let mut disk = FileDisk::new(&rt, Some(PATH.to_string(rt.alloc())?));
-    let made = disk.set_len(6);
-    assert_eq!(rt; made, Ok(()));
-    let wrote = disk.write_at(2, b"XYZ");
-    assert_eq!(rt; wrote, Ok(()));
-    let synced = disk.sync();
-    assert_eq!(rt; synced, Ok(()));
-
-    let mut second = FileDisk::new(&rt, Some(PATH.to_string(rt.alloc())?));
-    let locked = second.len();
-    assert_eq!(rt; locked, Err(Failed { faults: 1 }), "the file is locked");
-    drop(second);
-    drop(disk);
-
-    let mut again = FileDisk::new(&rt, Some(PATH.to_string(rt.alloc())?));
-    let length = again.len();
-    assert_eq!(rt; length, Ok(6));
-    let mut bytes = [7; 6];
-    let read = again.read_at(0, &mut bytes);
-    assert_eq!(rt; read, Ok(()));
-    assert_eq!(rt; bytes.as_slice(), b"\0\0XYZ\0".as_slice());
-    let past = again.read_at(1, &mut bytes);
-    assert_eq!(rt; past, Err(Failed { faults: 1 }), "past the end");
-    let cut = again.set_len(3);
-    assert_eq!(rt; cut, Ok(()));
-    let shorter = again.len();
-    assert_eq!(rt; shorter, Ok(3));
+    let written = [
+        (Call::SetLength(6), Ok(true)),
+        (Call::Write(2, b"XYZ"), Ok(true)),
+        (Call::Sync, Ok(true)),
+    ];
+    let read = [
+        (Call::Length(6), Ok(true)),
+        (Call::Read(0, b"\0\0XYZ\0"), Ok(true)),
+        (Call::Read(1, b""), Err(Failed { faults: 1 })),
+        (Call::SetLength(3), Ok(true)),
+        (Call::Length(3), Ok(true)),
+    ];
+    expect(&rt, &written)?;
+    expect(&rt, &read)?;
     fs::remove_file(&rt, PATH)?;
     Ok(())
 }
