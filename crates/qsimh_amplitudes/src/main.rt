@@ -3,8 +3,11 @@
 //! It reads its words, hands over the files that they name, and ends with the status of the call.
 #![tactic(auto)]
 
-use qh_io::{ErrSink, FileSink, FileSource};
-use qh_top::{Text, WordsFault, file_names, qsimh_alone};
+mod named;
+
+use named::{Adapters, named_files};
+use qh_io::ErrSink;
+use qh_top::qsimh_alone;
 use std::alloc::AllocError;
 use std::env::Env;
 use std::process::ExitCode;
@@ -33,18 +36,24 @@ fn words_after_name<R: Env + AllocGlobal>(rt: &R) -> Result<Vec<String>, AllocEr
 }
 
 fn main(rt: HostRuntime) -> ExitCode {
-    let alloc = rt.alloc();
     let Ok(words) = words_after_name(&rt) else {
         return ExitCode::from(MEMORY);
     };
-    let (circuit, bits, out) = match file_names(alloc, &words) {
-        Ok(names) => (names.circuit, names.bits, names.out),
-        Err(WordsFault::Usage) => (None, None, None),
-        Err(WordsFault::Memory) => return ExitCode::from(MEMORY),
+    let Ok(files) = named_files(&rt, rt.alloc(), &words) else {
+        return ExitCode::from(MEMORY);
     };
-    let mut circuit = FileSource::new(&rt, circuit.map(Text::into_string));
-    let mut bits = FileSource::new(&rt, bits.map(Text::into_string));
-    let mut out = FileSink::new(&rt, out.map(Text::into_string));
+    let Adapters {
+        mut circuit,
+        mut bits,
+        mut out,
+    } = files;
     let mut err = ErrSink::new(&rt);
-    ExitCode::from(qsimh_alone(alloc, &words, &mut circuit, &mut bits, &mut out, &mut err))
+    ExitCode::from(qsimh_alone(
+        rt.alloc(),
+        &words,
+        &mut circuit,
+        &mut bits,
+        &mut out,
+        &mut err,
+    ))
 }

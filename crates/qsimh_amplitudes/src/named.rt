@@ -1,0 +1,54 @@
+//! The files that the words of the command line name, as sources and a sink.
+ghost use Rattle.std.specs.Prelude.{◌≡◌, IfOk, map};
+ghost use Rattle.std.specs.Option.{option_and_then};
+ghost use Rattle.std.specs.String.{string_bytes};
+ghost use Rattle.qh_words.specs.Request.{options_of};
+
+use qh_io::{FileSink, FileSource};
+use qh_top::{Names, Text, WordsFault, file_names};
+use std::alloc::{AllocError, Global};
+use std::rt::Files;
+
+/// What the call reads and writes: the file of the circuit, that of the bitstrings, and that of the output or standard output.
+#[derive(Drop)]
+pub struct Adapters<'r, R: Files + Print> {
+    pub circuit: FileSource<'r, R>,
+    pub bits: FileSource<'r, R>,
+    pub out: FileSink<'r, R>,
+}
+
+/// The files that the words name, and none where the words are no request. An Err is want of memory.
+fn names_of(alloc: Global, words: &[String]) -> Result<Names, AllocError>
+    ensures circuit { IfOk result (λ names. names.circuit ≡ option_and_then (λ o. o.circuit) (options_of (map string_bytes words.now))) }
+    ensures bits { IfOk result (λ names. names.bits ≡ option_and_then (λ o. o.bits) (options_of (map string_bytes words.now))) }
+    ensures out { IfOk result (λ names. names.out ≡ option_and_then (λ o. o.out) (options_of (map string_bytes words.now))) }
+{
+    match file_names(alloc, words) {
+        Ok(names) => Ok(names),
+        Err(WordsFault::Usage) => Ok(Names {
+            circuit: None,
+            bits: None,
+            out: None,
+        }),
+        Err(WordsFault::Memory) => Err(AllocError),
+    }
+}
+
+/// The adapters for these words: each has the path that its option gives, and none where the option is absent or the
+/// words are no request. It opens no file. An Err is want of memory.
+pub fn named_files<'r, R: Files + Print>(
+    rt: &'r R,
+    alloc: Global,
+    words: &[String],
+) -> Result<Adapters<'r, R>, AllocError>
+    ensures circuit { IfOk result (λ files. files.circuit.path ≡ option_and_then (λ o. o.circuit) (options_of (map string_bytes words.now))) }
+    ensures bits { IfOk result (λ files. files.bits.path ≡ option_and_then (λ o. o.bits) (options_of (map string_bytes words.now))) }
+    ensures out { IfOk result (λ files. files.out.path ≡ option_and_then (λ o. o.out) (options_of (map string_bytes words.now))) }
+{
+    let names = names_of(alloc, words)?;
+    Ok(Adapters {
+        circuit: FileSource::new(rt, names.circuit.map(Text::into_string)),
+        bits: FileSource::new(rt, names.bits.map(Text::into_string)),
+        out: FileSink::new(rt, names.out.map(Text::into_string)),
+    })
+}
