@@ -1,0 +1,4 @@
+-- Lemmas that the crates above cite.
+pub mod AttachLemmas
+pub mod CreateLemmas
+pub mod KeptLemmas

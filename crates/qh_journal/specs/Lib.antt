@@ -1,0 +1,2 @@
+-- What the calls of a journal promise.
+pub mod Calls

@@ -1,0 +1,8 @@
+-- Lemmas that the crates above cite.
+pub mod ReadingLemmas
+pub mod PlaceLemmas
+pub mod StepLemmas
+pub mod PartLemmas
+pub mod LayLemmas
+pub mod WipeLemmas
+pub mod GroupLemmas

@@ -1,0 +1,21 @@
+//! The parts of which the functions of a journal are made: each a few calls of a disk, and what holds at every moment of them.
+//!
+//! Each part says what stays stable, what stays made by runs of the job, and what is read after it, over any disk and also where it fails. Reading
+//! the slots takes memory for their verdicts and for one slot; no part that writes takes any. `wipe` is whole.
+#![tactic(auto)]
+
+mod fault;
+mod group;
+mod laying;
+mod member;
+mod reading;
+mod storing;
+mod wiping;
+
+pub use fault::DiskFault;
+pub use group::store_group;
+pub use laying::{begin, lay, lay_all, write_slot};
+pub use member::Member;
+pub use reading::{add, barrier, count, read_front, read_slots, settle};
+pub use storing::store;
+pub use wiping::wipe;

@@ -1,0 +1,7 @@
+-- Lemmas that the crates above cite.
+pub mod SlotLemmas
+pub mod SpellingLemmas
+pub mod ReadLemmas
+pub mod ByteLemmas
+pub mod StandLemmas
+pub mod PlaceLemmas
