@@ -14,6 +14,3 @@ pub use fault::AttachFault;
 pub use heads::{MARK, head, head_refusal, name_refusal, old_head, old_head_refusal};
 pub use laws::{attaches, closed_has_none, one_map};
 pub use verdicts::{body_size, put_slot, read_slot, slot_size};
-
-#[cfg(test)]
-mod tests;
