@@ -1,0 +1,8 @@
+use Rattle.std.proofs.Common.{◌+◌, [], ◌∷◌}
+use Rattle.qh_ring.specs.Matrices.{number_in}
+use Rattle.qh_kernel.proofs.PlaceLemmas.{rank}
+use Rattle.qh_blocks.proofs.PartLemmas.{IsPart}
+use Rattle.qh_blocks.proofs.quads.low_high_blocks.Given as goal
+
+abbrev pub invariant-loop-p : goal.invariant-loop-p
+invariant-loop-p g l = IsPart g.V.Vector.lanes g.V.Vector.PLACES (number_in l.m.rows) (l.q0 ∷ (l.q1 + g.V.Vector.PLACES) ∷ []) (rank l.q1) l.bits l.initial.v l.v l.p
