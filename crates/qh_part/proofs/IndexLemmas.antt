@@ -11,7 +11,6 @@ use Rattle.std.proofs.lemmas.List.{take_more, length-append, length-take-le}
 use Rattle.std.proofs.lemmas.List.Elements.{All-push}
 use Rattle.std.proofs.lemmas.Bool.{cases_Bool}
 use Rattle.qh_plan.specs.Parts.{count_below, local_index}
-use Rattle.qh_meaning.proofs.PartLemmas.{count_in, count_out, index_in, index_out}
 use Rattle.qh_part.specs.Parts.{qubits_below, index_on}
 
 twice : (b p : ℕ) → b < 2 → 2 * (b * p) ≡ b * (p * 2)

@@ -1,14 +1,13 @@
 -- The gates placed in a part, against the part's operations along a path.
-use Rattle.std.proofs.Common.{◌≡◌, ◌≢◌, ◌==◌, ℕ, zero, suc, ◌+◌, ◌<◌, inl, inr, Bool, true, false, ◌||◌, cond, count_by, if◌then◌else◌, eqb, List, [], ◌∷◌, ◌++◌, length, map, get_or, take, drop, Option, Some, None, IfSome, arith, refl, sym, ap, subst, ◌∙◌}
+use Rattle.std.proofs.Common.{◌≡◌, ◌≢◌, ◌==◌, ℕ, zero, suc, ◌+◌, ◌<◌, inl, inr, Bool, true, false, ◌||◌, cond, count_by, if◌then◌else◌, List, [], ◌∷◌, ◌++◌, length, map, get_or, take, drop, Option, Some, None, IfSome, arith, refl, sym, ap, subst, ◌∙◌}
 use Rattle.std.proofs.Math.Path.{ap₂}
-use Rattle.std.specs.List.{All, filter_map, cons_option}
+use Rattle.std.specs.List.{All, cons_option}
 use Rattle.std.proofs.lemmas.List.{take_more, length-append, get_or_append_left, get_or_at}
 use Rattle.std.proofs.lemmas.List.Sums.{sum_by-cons}
 use Rattle.std.proofs.lemmas.List.Elements.{All-head, All-tail, All-cons, filter_map-append}
 use Rattle.std.proofs.lemmas.Bool.{cases_Bool, cases_lt, ne_eqb, eq-eqb, false≢true}
 use Rattle.qh_ring.specs.Matrices.{number_in}
 use Rattle.qh_gates.specs.declared.gate.Gate.{Gate}
-use Rattle.qh_gates.specs.declared.kind.Kind.{Kind}
 use Rattle.qh_gates.specs.Tables.{qubits_of, matrix_of}
 use Rattle.qh_gates.specs.Terms.{terms_of}
 use Rattle.qh_gates.specs.Circuits.{Fits}
@@ -17,7 +16,7 @@ use Rattle.qh_plan.specs.Parts.{others, count_below}
 use Rattle.qh_plan.specs.Jobs.{Job, in_one, job_radices}
 use Rattle.qh_plan.specs.Paths.{differ, crosses, radices}
 use Rattle.qh_gates.proofs.KindLemmas.{one_or_two}
-use Rattle.qh_meaning.specs.Paths.{first_digit, other_digits}
+use Rattle.qh_meaning.specs.Paths.{other_digits}
 use Rattle.qh_meaning.specs.Halves.{half_operations}
 use Rattle.qh_meaning.proofs.PartLemmas.{count_lt}
 use Rattle.qh_meaning.proofs.HalfLemmas.{half_first, half_second, half_local, half_none, crosses_others}
@@ -26,7 +25,7 @@ use Rattle.qh_part.specs.declared.place.Placed.TheVariants.{OnOne, OnTwo, FirstH
 use Rattle.qh_part.specs.declared.part.Part.{Part}
 use Rattle.qh_part.specs.declared.part.Part.TheVariants.{One, Two}
 use Rattle.qh_part.specs.Parts.{in_part, acts_in, number_of, numbers_below}
-use Rattle.qh_part.specs.Places.{place_at, place, placed, operation_by, choices, term_counts, operations, IsPlacedIn}
+use Rattle.qh_part.specs.Places.{place_at, place, placed, term_counts, operations, IsPlacedIn}
 
 -- ---- one gate more
 pub placed_append : (one : ℕ → Bool) (xs ys : List Gate) → placed one (xs ++ ys) ≡ placed one xs ++ placed one ys
@@ -162,7 +161,7 @@ numbers_differ one p q s t ne e = elim (cases_lt p q) [
   | inr l ↦ let h = count_lt one q p t (omega arith) in absurd (omega arith)
 ]
 
-crossing_two : (g : Gate) (n : ℕ) → Fits n g → g.q1 ≢ g.q0 → qubits_of g.kind ≡ 2
+pub crossing_two : (g : Gate) (n : ℕ) → Fits n g → g.q1 ≢ g.q0 → qubits_of g.kind ≡ 2
 crossing_two g n f ne = elim (one_or_two g.kind) [ inl k ↦ absurd (ne (f.one k)) | inr k ↦ k ]
 
 apart : (one : ℕ → Bool) (p q : ℕ) (a b : Bool) → one p ≡ a → one q ≡ b → (a ≡ b → ⊥) → q ≢ p
@@ -208,7 +207,7 @@ placed_fit one n (g ∷ gs) h = kept (place one g) (placed one gs) (place_fits o
     kept (Some p) ps h t = All-cons (IsPlacedIn (count_below one n)) p ps h t
 
 -- ---- both parts take their digits from those of the job's path
-radices_others : (one : ℕ → Bool) (gs : List Gate) → radices (others one) gs ≡ radices one gs
+pub radices_others : (one : ℕ → Bool) (gs : List Gate) → radices (others one) gs ≡ radices one gs
 radices_others one [] = refl
 radices_others one (g ∷ gs) = elim (cases_Bool (crosses one g)) [
   | inl e ↦ let f : crosses (others one) g ≡ true = crosses_others one g ∙ e in rw (e, f) (ap (λ t. length (terms_of g.kind) ∷ t) (radices_others one gs))

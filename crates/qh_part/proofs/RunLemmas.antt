@@ -1,6 +1,5 @@
 -- What placed gates do to a half, one after another.
-use Rattle.std.proofs.Common.{◌≡◌, ℕ, zero, suc, ◌+◌, ◌<◌, ◌≤◌, inl, inr, true, false, List, [], ◌∷◌, ◌++◌, length, get_or, take, drop, Option, Some, None, arith, refl, sym, ap, subst, ◌∙◌}
-use Rattle.std.proofs.Math.Path.{ap₂, subst₂}
+use Rattle.std.proofs.Common.{◌≡◌, ℕ, zero, suc, ◌+◌, ◌<◌, ◌≤◌, inl, inr, true, List, [], ◌∷◌, ◌++◌, length, get_or, take, drop, Option, Some, None, arith, refl, sym, ap, subst, ◌∙◌}
 use Rattle.std.specs.List.{All, AllZip}
 use Rattle.std.proofs.lemmas.List.{take_more, take_all, length-append, get_or-drop, drop-drop, append_assoc}
 use Rattle.std.proofs.lemmas.List.Sums.{fold-append}
@@ -14,7 +13,7 @@ use Rattle.qh_ring.proofs.ListedLemmas.{applied_listed}
 use Rattle.qh_ring.specs.declared.matrix.Entry.{Entry}
 use Rattle.qh_gates.specs.declared.kind.Kind.{Kind}
 use Rattle.qh_gates.specs.Tables.{matrix_of}
-use Rattle.qh_gates.specs.Terms.{terms_of, term_at}
+use Rattle.qh_gates.specs.Terms.{term_at}
 use Rattle.qh_gates.specs.Evolution.{Operation}
 use Rattle.qh_half.specs.Halves.{AfterMatrix}
 use Rattle.qh_meaning.specs.Paths.{first_digit}

@@ -1,5 +1,5 @@
 -- A circuit's gates as they act in one part, whose qubits are numbered anew from 0 in rising order.
-use Rattle.std.specs.Prelude.{◌≡◌, ◌≢◌, ◌==◌, ℕ, ◌<◌, Bool, true, false, if◌then◌else◌, List, [], ◌∷◌, ◌++◌, length, drop, Option, Some, None}
+use Rattle.std.specs.Prelude.{◌≡◌, ◌≢◌, ◌==◌, ℕ, ◌<◌, Bool, if◌then◌else◌, List, [], ◌∷◌, ◌++◌, length, drop, Option, Some, None}
 use Rattle.std.specs.List.{filter_map}
 use Rattle.qh_ring.specs.Matrices.{number_in}
 use Rattle.qh_gates.specs.declared.gate.Gate.{Gate}

@@ -9,10 +9,12 @@ mod index;
 mod part;
 mod place;
 mod run;
+mod stage;
 #[cfg(test)]
 mod tests;
 
 pub use index::local_indices;
 pub use part::{Part, part_width};
-pub use place::{Placed, place_gates};
+pub use place::{Placed, place_gates, place_stage};
 pub use run::{apply_placed, run_placed};
+pub use stage::{Stage, stage_digits};

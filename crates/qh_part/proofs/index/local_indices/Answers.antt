@@ -2,7 +2,7 @@ use Rattle.std.proofs.Common.{◌≡◌, ◌≤◌, ◌<◌, ◌++◌, ◌+◌, 
 use Rattle.std.proofs.Math.Path.{ap₂}
 use Rattle.std.proofs.lemmas.List.{take_more, map-append}
 use Rattle.qh_plan.specs.Parts.{local_index}
-use Rattle.qh_part.specs.Parts.{in_part, width, qubits_below, index_on}
+use Rattle.qh_part.specs.Parts.{in_part, index_on}
 use Rattle.qh_part.proofs.IndexLemmas.{qubits_under, length_below, index_below}
 use Rattle.qh_part.proofs.WidthLemmas.{width_few}
 use Rattle.qh_part.proofs.index.local_indices.Goals as goal
