@@ -73,3 +73,10 @@ steps_more k each start before now b n =
   where
     next : (k each : ℕ) → (k + 1) * each ≡ k * each + each
     next k each = omega arith
+
+-- those of a root and its suffixes, and of a prefix before them
+pub steps_after : (start root few more now : ℕ) → root ≡ start + few → now ≤ root + more → now ≤ start + (few + more)
+steps_after start root few more now e l = omega arith
+
+pub steps_within : (start root few more now : ℕ) → root ≤ start + few → now ≤ root + more → now ≤ start + (few + more)
+steps_within start root few more now h l = omega arith

@@ -2,3 +2,4 @@
 pub mod Results
 pub mod Steps
 pub mod Sides
+pub mod Rooms

@@ -1,9 +1,13 @@
--- What a path costs.
-use Rattle.std.specs.Prelude.{ℕ, ◌+◌}
-use Rattle.qh_plan.specs.Jobs.{Job}
-use Rattle.qh_part.specs.declared.part.Part.TheVariants.{One, Two}
-use Rattle.qh_part.specs.Parts.{gates_in}
+-- What a range costs. A step goes once over a half.
+use Rattle.std.specs.Prelude.{ℕ, ◌+◌, ◌*◌}
+use Rattle.qh_plan.specs.Jobs.{Job, per_range}
+use Rattle.qh_part.specs.declared.stage.Stage.TheVariants.{Prefix, Root, Suffix}
+use Rattle.qh_part.specs.Stages.{stage_steps}
 
--- a path makes one step for each gate that acts in part 1, and one for each that acts in part 2
-abbrev pub path_steps : Job → ℕ
-path_steps j = gates_in One j + gates_in Two j
+-- from a checkpoint: the steps of the root once, and those of the suffix for each path
+abbrev pub range_steps : Job → ℕ
+range_steps j = stage_steps Root j + per_range j * stage_steps Suffix j
+
+-- from the state with all qubits 0: those of the prefix too
+abbrev pub whole_steps : Job → ℕ
+whole_steps j = stage_steps Prefix j + range_steps j

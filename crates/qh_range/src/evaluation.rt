@@ -1,27 +1,61 @@
 //! The value of a range.
-ghost use Rattle.std.specs.Prelude.{◌≡◌, ◌+◌, ◌*◌, ◌<◌, ◌≤◌, IfOk, OnErr, length, replicate};
+ghost use Rattle.std.specs.Prelude.{◌≡◌, ◌+◌, ◌*◌, ◌<◌, ◌≤◌, IfOk, IfSome, IsSome, OnErr, length, replicate};
 ghost use Rattle.std.specs.Arc.{arc_value};
 ghost use Rattle.qh_ring.specs.Numbers.{nothing};
 ghost use Rattle.qh_plan.specs.Jobs.{IsJob, ranges, per_range};
+ghost use Rattle.qh_plan.specs.Ranges.{prefix_of};
 ghost use Rattle.qh_meaning.specs.Values.{range_value};
 ghost use Rattle.qh_part.specs.declared.part.Part.TheVariants as Parts;
-ghost use Rattle.qh_range.specs.Sides.{IsSide};
-ghost use Rattle.qh_range.specs.Steps.{path_steps};
+ghost use Rattle.qh_part.specs.declared.stage.Stage.TheVariants as Stages;
+ghost use Rattle.qh_part.specs.Stages.{stage_steps};
+ghost use Rattle.qh_prefix.specs.Checkpoints.{IsAtPrefix};
+ghost use Rattle.qh_range.specs.Sides.{IsSide, IsAtRoot};
+ghost use Rattle.qh_range.specs.Steps.{range_steps, whole_steps};
 
 use crate::path::add_path;
 use crate::result::RangeResult;
-use crate::side::{Side, new_side};
+use crate::room::Room;
+use crate::side::{Side, run_root};
 use crate::ticket::Ticket;
-use qh_part::Part;
+use qh_half::Half;
+use qh_part::{Stage, stage_digits};
 use qh_plan::{Job, Sums, Verdict};
+use qh_prefix::{Checkpoint, make_checkpoint};
 use qh_ring::Omega;
 use qh_steps::Steps;
 use std::alloc::{AllocError, Global};
 use std::sync::Arc;
 use std::sync::ledger::Ledger;
 
+/// Brings both parts to the root of the range, from the halves at its prefix.
+pub(crate) fn go_to_root<L: Ledger>(
+    job: &Job,
+    range: u32,
+    from: (&Half, &Half),
+    one: &mut Side,
+    two: &mut Side,
+    steps: &mut Steps<L>,
+)
+    requires valid { IsJob job.now }
+    requires below { range < ranges job.now }
+    requires one { IsSide Parts.One job.now one.old }
+    requires two { IsSide Parts.Two job.now two.old }
+    requires one_from { IsAtPrefix Parts.One job.now (prefix_of job.now range) from.0.now }
+    requires two_from { IsAtPrefix Parts.Two job.now (prefix_of job.now range) from.1.now }
+    ensures one { IsSide Parts.One job.now one.new }
+    ensures two { IsSide Parts.Two job.now two.new }
+    ensures one_root { IsAtRoot Parts.One job.now range one.new.root.numbers }
+    ensures two_root { IsAtRoot Parts.Two job.now range two.new.root.numbers }
+    ensures steps { steps.new ≡ steps.old + stage_steps Stages.Root job.now }
+{
+    let path_digits = job.digits(job.first_path(range));
+    let digits = stage_digits(job, Stage::Root, &path_digits);
+    run_root(one, from.0, digits, steps);
+    run_root(two, from.1, digits, steps);
+}
+
 /// Adds what the paths of the range contribute, from sums that are 0, up to the first that is over.
-fn sum_range<L: Ledger>(
+pub(crate) fn sum_range<L: Ledger>(
     job: &Job,
     range: u32,
     one: &mut Side,
@@ -33,14 +67,18 @@ fn sum_range<L: Ledger>(
     requires below { range < ranges job.now }
     requires one { IsSide Parts.One job.now one.old }
     requires two { IsSide Parts.Two job.now two.old }
+    requires one_root { IsAtRoot Parts.One job.now range one.old.root.numbers }
+    requires two_root { IsAtRoot Parts.Two job.now range two.old.root.numbers }
     requires zeros { zeros.items ≡ replicate (length job.now.bits) nothing }
     ensures value { result ≡ range_value job.now range }
-    ensures steps { steps.new ≤ steps.old + per_range job.now * path_steps job.now }
+    ensures one { IsSide Parts.One job.now one.new }
+    ensures two { IsSide Parts.Two job.now two.new }
+    ensures steps { steps.new ≤ steps.old + per_range job.now * stage_steps Stages.Suffix job.now }
 {
     let first = job.first_path(range);
     let mut sums = zeros;
     for k in 0..job.per_range() {
-        if !add_path(job, first + k, one, two, &mut sums, steps) {
+        if !add_path(job, range, first + k, one, two, &mut sums, steps) {
             return Verdict::Over { path: first + k };
         }
     }
@@ -51,27 +89,34 @@ fn sum_range<L: Ledger>(
 /// amplitudes, or the least of its paths that is over. A path is over where a coefficient in one of its halves comes to
 /// a magnitude of 2^126, or one of the sixteen products of the coefficients of two half amplitudes to 2^92.
 ///
-/// Before the first path it takes its memory, four halves among it, and places the gates in both parts. Then each path costs
-/// a copy of a half in each part, and one step, which goes once over a half, for each gate that acts in that half's part.
+/// It makes a room for itself: before the first path it takes its memory, four halves among it, or six where no checkpoint
+/// is given. A given checkpoint is of the job and of the range's prefix value. From it the range costs the gates of the root
+/// once and those of the suffix for each path, one step, which goes once over a half, for each part that a gate acts in;
+/// without one the gates of the prefix too.
 pub fn evaluate<L: Ledger>(
     alloc: Global,
     job: &Arc<Job>,
     ticket: &Ticket,
+    point: Option<&Checkpoint>,
     steps: &mut Steps<L>,
 ) -> Result<RangeResult, AllocError>
-    requires { ticket.now.range < ranges (arc_value job.now) }
+    requires below { ticket.now.range < ranges (arc_value job.now) }
+    requires point_job { IfSome point (λ p. p.now.job ≡ arc_value job.now) }
+    requires point_prefix { IfSome point (λ p. p.now.prefix ≡ prefix_of (arc_value job.now) ticket.now.range) }
     ensures job { IfOk result (λ r. r.job ≡ arc_value job.now) }
     ensures range { IfOk result (λ r. r.range ≡ ticket.now.range) }
     ensures attempt { IfOk result (λ r. r.attempt ≡ ticket.now.attempt) }
     ensures value { IfOk result (λ r. r.verdict ≡ range_value (arc_value job.now) ticket.now.range) }
-    ensures steps { steps.new ≤ steps.old + per_range (arc_value job.now) * path_steps (arc_value job.now) }
+    ensures steps { IsSome point.entry → steps.new ≤ steps.old + range_steps (arc_value job.now) }
+    ensures steps_without { steps.new ≤ steps.old + whole_steps (arc_value job.now) }
     ensures memory { OnErr result (steps.new ≡ steps.old) }
 {
-    let mut one = new_side(alloc, job, Part::One)?;
-    let mut two = new_side(alloc, job, Part::Two)?;
-    let zeros = vec![in alloc; Omega::ZERO; job.bits().len()]?;
+    let mut room = Room::new(alloc, job)?;
+    let zeros = room.zeros(alloc)?;
     let shared = Arc::try_clone(job)?;
-    let range = ticket.range();
-    let verdict = sum_range(job, range, &mut one, &mut two, zeros, steps);
-    Ok(RangeResult::of_value(shared, range, ticket.attempt(), verdict))
+    if let Some(point) = point {
+        return Ok(room.run(shared, zeros, ticket, point, steps));
+    }
+    let made = make_checkpoint(alloc, job, job.prefix_of(ticket.range()), steps)?;
+    Ok(room.run(shared, zeros, ticket, &made, steps))
 }

@@ -3,16 +3,19 @@ ghost use Rattle.std.specs.Prelude.{◌≡◌, ◌+◌, ◌<◌, ◌≤◌, All,
 ghost use Rattle.std.specs.List.{list_all};
 ghost use Rattle.qh_limits.specs.Limits.{coefficient_bits};
 ghost use Rattle.qh_ring.specs.Numbers.{IsWithin, product};
-ghost use Rattle.qh_plan.specs.Jobs.{paths};
+ghost use Rattle.qh_plan.specs.Jobs.{IsJob, ranges};
 ghost use Rattle.qh_plan.specs.Parts.{local_index};
 ghost use Rattle.qh_plan.specs.Verdicts.{added};
 ghost use Rattle.qh_meaning.specs.Halves.{contribution};
 ghost use Rattle.qh_meaning.specs.Limits.{are_narrow, path_fits};
 ghost use Rattle.qh_part.specs.declared.part.Part.TheVariants as Parts;
-ghost use Rattle.qh_range.specs.Sides.{IsSide, number_at};
-ghost use Rattle.qh_range.specs.Steps.{path_steps};
+ghost use Rattle.qh_part.specs.declared.stage.Stage.TheVariants as Stages;
+ghost use Rattle.qh_part.specs.Stages.{stage_steps};
+ghost use Rattle.qh_plan.specs.Ranges.{IsInRange};
+ghost use Rattle.qh_range.specs.Sides.{IsSide, IsAtRoot, number_at};
 
 use crate::side::{Side, run_half};
+use qh_part::{Stage, stage_digits};
 use qh_plan::Job;
 use qh_ring::{Omega, add_bounded, mul_checked};
 use qh_steps::Steps;
@@ -40,32 +43,41 @@ fn add_products(sums: &mut [Omega], job: &Job, one: &Side, two: &Side) -> bool
     true
 }
 
-/// Adds what a path contributes. It is false where the path is over, and runs part 2 only where part 1 is not over.
+/// Adds what a path of a range contributes, from the halves at the range's root. It is false where the path is over, and
+/// runs part 2 only where part 1 is not over.
 pub(crate) fn add_path<L: Ledger>(
     job: &Job,
+    range: u32,
     path: u64,
     one: &mut Side,
     two: &mut Side,
     sums: &mut [Omega],
     steps: &mut Steps<L>,
 ) -> bool
-    requires below { path < paths job.now }
+    requires valid { IsJob job.now }
+    requires range { range < ranges job.now }
+    requires below { IsInRange job.now range path }
     requires one { IsSide Parts.One job.now one.old }
     requires two { IsSide Parts.Two job.now two.old }
+    requires one_root { IsAtRoot Parts.One job.now range one.old.root.numbers }
+    requires two_root { IsAtRoot Parts.Two job.now range two.old.root.numbers }
     requires same_length { length sums.old ≡ length job.now.bits }
     requires bounded { All (IsWithin coefficient_bits) sums.old }
     ensures fits { result ≡ path_fits job.now path }
     ensures sums { result ≡ Bool.true → sums.new ≡ added sums.old (map (contribution job.now path) job.now.bits) }
     ensures one { IsSide Parts.One job.now one.new }
     ensures two { IsSide Parts.Two job.now two.new }
-    ensures steps { steps.new ≤ steps.old + path_steps job.now }
+    ensures one_root { one.new.root ≡ one.old.root }
+    ensures two_root { two.new.root ≡ two.old.root }
+    ensures steps { steps.new ≤ steps.old + stage_steps Stages.Suffix job.now }
 {
-    let digits = job.digits(path);
-    run_half(one, &digits, steps);
+    let path_digits = job.digits(path);
+    let digits = stage_digits(job, Stage::Suffix, &path_digits);
+    run_half(one, digits, steps);
     if one.half.is_over() {
         return false;
     }
-    run_half(two, &digits, steps);
+    run_half(two, digits, steps);
     if two.half.is_over() {
         return false;
     }

@@ -6,18 +6,19 @@ ghost use Rattle.qh_part.specs.Runs.{IsAfter};
 ghost use Rattle.qh_range.specs.Sides.{IsSide};
 
 use qh_half::Half;
-use qh_part::{Part, Placed, local_indices, part_width, place_gates, run_placed};
+use qh_part::{Part, Placed, Stage, local_indices, part_width, place_stage, run_placed};
 use qh_plan::Job;
 use qh_steps::Steps;
 use std::alloc::{AllocError, Global};
 use std::sync::ledger::Ledger;
 
-/// One part of a job as its paths run: the gates that act in it, the half in which each path begins, the half that runs,
-/// and the asked bitstrings within the part.
+/// One part of a job as its ranges run: the gates of the root and of the suffix that act in it, the half at the root of a
+/// range, in which each of its paths begins, the half that runs, and the asked bitstrings within the part.
 #[derive(Drop)]
 pub(crate) struct Side {
+    pub(crate) root_gates: Vec<Placed>,
     pub(crate) gates: Vec<Placed>,
-    pub(crate) start: Half,
+    pub(crate) root: Half,
     pub(crate) half: Half,
     pub(crate) indices: Vec<u32>,
 }
@@ -26,29 +27,45 @@ pub(crate) struct Side {
 pub(crate) fn new_side(alloc: Global, job: &Job, part: Part) -> Result<Side, AllocError>
     ensures { IfOk result (λ s. IsSide part job.now s) }
 {
-    let gates = place_gates(alloc, job, part)?;
+    let root_gates = place_stage(alloc, job, part, Stage::Root)?;
+    let gates = place_stage(alloc, job, part, Stage::Suffix)?;
     let qubits = part_width(job, part);
-    let start = Half::ground(alloc, qubits)?;
+    let root = Half::ground(alloc, qubits)?;
     let half = Half::ground(alloc, qubits)?;
     let indices = local_indices(alloc, job, part)?;
     Ok(Side {
+        root_gates,
         gates,
-        start,
+        root,
         half,
         indices,
     })
 }
 
-/// Runs the half from its start along the path of these digits, one step for each placed gate.
+/// Brings the half at the root from a half at the prefix along these digits, one step for each placed gate of the root.
+pub(crate) fn run_root<L: Ledger>(side: &mut Side, from: &Half, digits: &[u8], steps: &mut Steps<L>)
+    requires size { side.old.root.qubits ≡ from.now.qubits }
+    requires fit { All (IsPlacedIn side.old.root.qubits) side.old.root_gates.items }
+    requires path { AllZip (λ d r. d < r) digits.now (term_counts side.old.root_gates.items) }
+    ensures kept { side.new ≡ record side.old { root = side.new.root } }
+    ensures size { side.new.root.qubits ≡ side.old.root.qubits }
+    ensures after { IsAfter side.old.root.qubits (operations side.old.root_gates.items digits.now) from.now.numbers side.new.root.numbers }
+    ensures step { steps.new ≡ steps.old + length side.old.root_gates.items }
+{
+    side.root.copy_from(from);
+    run_placed(&mut side.root, &side.root_gates, digits, steps);
+}
+
+/// Runs the half from the root along these digits, one step for each placed gate of the suffix.
 pub(crate) fn run_half<L: Ledger>(side: &mut Side, digits: &[u8], steps: &mut Steps<L>)
-    requires size { side.old.start.qubits ≡ side.old.half.qubits }
+    requires size { side.old.root.qubits ≡ side.old.half.qubits }
     requires fit { All (IsPlacedIn side.old.half.qubits) side.old.gates.items }
     requires path { AllZip (λ d r. d < r) digits.now (term_counts side.old.gates.items) }
     ensures kept { side.new ≡ record side.old { half = side.new.half } }
     ensures size { side.new.half.qubits ≡ side.old.half.qubits }
-    ensures after { IsAfter side.old.half.qubits (operations side.old.gates.items digits.now) side.old.start.numbers side.new.half.numbers }
+    ensures after { IsAfter side.old.half.qubits (operations side.old.gates.items digits.now) side.old.root.numbers side.new.half.numbers }
     ensures step { steps.new ≡ steps.old + length side.old.gates.items }
 {
-    side.half.copy_from(&side.start);
+    side.half.copy_from(&side.root);
     run_placed(&mut side.half, &side.gates, digits, steps);
 }

@@ -1,10 +1,12 @@
-//! Ranges of small circuits, a range that is over, and circuits wider than a whole state.
+//! Ranges of small circuits, with and without a checkpoint, a range that is over, and circuits wider than a whole state.
 ghost use Rattle.std.specs.Prelude.{◌≡◌, ◌<◌, ◌≤◌, ◌^◌, All, IsTrue, length};
+ghost use Rattle.std.specs.Arc.{arc_value};
 ghost use Rattle.qh_plan.specs.Plans.{AreBits};
 
-use crate::{Ticket, evaluate};
+use crate::{RangeResult, Room, Ticket, evaluate};
 use qh_gates::{Circuit, Gate, Kind, arity};
 use qh_plan::{Job, Verdict, plan};
+use qh_prefix::{Checkpoint, make_checkpoint};
 use qh_ring::Omega;
 use qh_steps::Steps;
 use std::alloc::{AllocError, Global};
@@ -86,7 +88,26 @@ fn job_of(
     Ok(Arc::new(alloc, job)?)
 }
 
-/// Evaluates a range, and compares it with the wanted sums, or with the wanted path that is over.
+/// Compares the third attempt at a range with the wanted sums, or with the wanted path that is over.
+fn compare(
+    rt: &impl Abort,
+    job: &Arc<Job>,
+    range: u32,
+    given: RangeResult,
+    wanted: Result<&[Omega], u64>,
+) -> Result<(), Fail> {
+    assert_eq!(rt; (given.range(), given.attempt()), (range, 3));
+    assert!(rt; given.job().same(job));
+    match (&given.into_verdict(), wanted) {
+        (Verdict::Sum(sums), Ok(wanted)) => assert_eq!(rt; sums.values(), wanted),
+        (Verdict::Over { path }, Err(wanted)) => assert_eq!(rt; *path, wanted),
+        (Verdict::Sum(_), Err(wanted)) => assert!(rt; false, "path {wanted} is not over"),
+        (Verdict::Over { path }, Ok(_)) => assert!(rt; false, "over at {path}"),
+    }
+    Ok(())
+}
+
+/// Evaluates a range without a checkpoint, and compares it.
 fn check<L: Ledger>(
     rt: &impl Abort,
     alloc: Global,
@@ -96,16 +117,8 @@ fn check<L: Ledger>(
     steps: &mut Steps<L>,
 ) -> Result<(), Fail> {
     assert!(rt; range < job.ranges());
-    let result = evaluate(alloc, job, &Ticket::new(range, 3), steps)?;
-    assert_eq!(rt; (result.range(), result.attempt()), (range, 3));
-    assert!(rt; result.job().same(job));
-    match (&result.into_verdict(), wanted) {
-        (Verdict::Sum(sums), Ok(wanted)) => assert_eq!(rt; sums.values(), wanted),
-        (Verdict::Over { path }, Err(wanted)) => assert_eq!(rt; *path, wanted),
-        (Verdict::Sum(_), Err(wanted)) => assert!(rt; false, "path {wanted} is not over"),
-        (Verdict::Over { path }, Ok(_)) => assert!(rt; false, "over at {path}"),
-    }
-    Ok(())
+    let result = evaluate(alloc, job, &Ticket::new(range, 3), None, steps)?;
+    compare(rt, job, range, result, wanted)
 }
 
 fn whole(a: i128) -> Omega {
@@ -157,6 +170,48 @@ fn run_pairs<L: Ledger>(rt: &impl Abort, alloc: Global, steps: &mut Steps<L>) ->
         check(rt, alloc, &job, range, Ok(wanted.as_slice()), steps)?;
     }
     Ok(())
+}
+
+/// Evaluates a range of two qubits without a checkpoint, from one, and from one in a room, and compares all three.
+fn check_from<L: Ledger>(
+    rt: &impl Abort,
+    alloc: Global,
+    job: &Arc<Job>,
+    room: &mut Room,
+    point: &Checkpoint,
+    range: u32,
+    wanted: [Omega; 4],
+    steps: &mut Steps<L>,
+) -> Result<(), Fail>
+    requires { room.old ≡ arc_value job.now }
+    ensures { room.new ≡ room.old }
+{
+    let wanted = Ok(wanted.as_slice());
+    check(rt, alloc, job, range, wanted, steps)?;
+    assert!(rt; range < job.ranges() && point.is_for(job, job.prefix_of(range)));
+    let ticket = Ticket::new(range, 3);
+    let result = evaluate(alloc, job, &ticket, Some(point), steps)?;
+    compare(rt, job, range, result, wanted)?;
+    let result = room.evaluate(alloc, &ticket, point, steps)?;
+    compare(rt, job, range, result, wanted)
+}
+
+/// A root gate and no prefix gate: one checkpoint and one room serve both ranges.
+fn run_from_checkpoint<L: Ledger>(
+    rt: &impl Abort,
+    alloc: Global,
+    steps: &mut Steps<L>,
+) -> Result<(), Fail> {
+    let circuit = circuit_of(rt, alloc, 2, &TWO)?;
+    let bits = Vec::from_array(alloc, [0, 1, 2, 3])?;
+    let job = job_of(rt, alloc, circuit, &[0], (0, 1), None, bits)?;
+    assert!(rt; 0 < job.prefixes());
+    let point = make_checkpoint(alloc, &job, 0, steps)?;
+    let mut room = Room::new(alloc, &job)?;
+    let first = wholes(1, 1, 1, -1);
+    check_from(rt, alloc, &job, &mut room, &point, 0, first, steps)?;
+    let second = wholes(1, -1, -1, -1);
+    check_from(rt, alloc, &job, &mut room, &point, 1, second, steps)
 }
 
 /// Some gates, and then this many `h` on qubit 0.
@@ -238,6 +293,7 @@ fn run_all<L: Ledger>(rt: &impl Abort, alloc: Global, blank: Blank) -> Result<()
 {
     let mut steps = Steps::<L>::new(blank);
     run_pairs(rt, alloc, &mut steps)?;
+    run_from_checkpoint(rt, alloc, &mut steps)?;
     run_over(rt, alloc, &mut steps)?;
     run_wider(rt, alloc, &mut steps)
 }

@@ -1,70 +1,98 @@
-use Rattle.std.proofs.Common.{arith, ◌≡◌, ◌+◌, ◌<◌, sym, subst, ◌∙◌}
+use Rattle.std.proofs.Common.{arith, ◌≡◌, ◌<◌, refl, sym, ap, subst, ◌∙◌}
 use Rattle.std.specs.List.{AllZip}
 use Rattle.std.proofs.lemmas.Bool.{both_ways}
+use Rattle.qh_plan.specs.Jobs.{digits_of}
 use Rattle.qh_part.specs.declared.part.Part.TheVariants.{One, Two}
-use Rattle.qh_part.specs.Parts.{gates_in}
-use Rattle.qh_plan.specs.Jobs.{job_radices}
-use Rattle.qh_range.proofs.SideLemmas.{takes_path, holds, steps_are}
+use Rattle.qh_part.specs.declared.stage.Stage.TheVariants.{Suffix}
+use Rattle.qh_part.specs.Stages.{stretch, stage_radices}
+use Rattle.qh_part.proofs.StageLemmas.{stretch_below}
+use Rattle.qh_range.proofs.RootLemmas.{path_below}
+use Rattle.qh_range.proofs.SideLemmas.{takes_suffix, holds, suffix_steps}
 use Rattle.qh_range.proofs.PathLemmas.{over_half, held_half, not_first, not_second, fits_both, sums_both}
 use Rattle.qh_range.proofs.path.add_path.Goals as goal
 
+pub digits-path_digits-requires : goal.digits-path_digits-requires
+digits-path_digits-requires g c =
+    path_below c.args.job.now c.requires.valid c.args.range c.args.path c.requires.range c.requires.below
+
 pub run_half-requires-clause-path : goal.run_half-requires-clause-path
 run_half-requires-clause-path g c =
-    takes_path One c.args.job.now c.args.one.now c.requires.one c.deref.result.now
-    (subst (λ ds. AllZip (λ d r. d < r) ds (job_radices c.args.job.now)) (sym c.deref.ensures.0) c.digits-digits.ensures.below)
+    let j = c.args.job.now in
+    let valid = c.requires.valid in
+    let below = stretch_below Suffix j c.digits-path_digits.result.items c.digits-path_digits.ensures.below in
+    let e : c.stage_digits-digits.result.now ≡ stretch Suffix j c.digits-path_digits.result.items = c.stage_digits-digits.ensures ∙ ap (stretch Suffix j) c.deref.ensures.0 in
+    takes_suffix One j c.args.one.now c.requires.one c.stage_digits-digits.result.now valid (subst (λ ds. AllZip (λ d r. d < r) ds (stage_radices Suffix j)) (sym e) below)
 
 pub run_half-requires-2-clause-path : goal.run_half-requires-2-clause-path
 run_half-requires-2-clause-path g c =
-    takes_path Two c.args.job.now c.args.two.now c.requires.two c.deref-2.result.now
-    (subst (λ ds. AllZip (λ d r. d < r) ds (job_radices c.args.job.now)) (sym c.deref-2.ensures.0) c.digits-digits.ensures.below)
+    let j = c.args.job.now in
+    let valid = c.requires.valid in
+    let below = stretch_below Suffix j c.digits-path_digits.result.items c.digits-path_digits.ensures.below in
+    let e : c.stage_digits-digits.result.now ≡ stretch Suffix j c.digits-path_digits.result.items = c.stage_digits-digits.ensures ∙ ap (stretch Suffix j) c.deref.ensures.0 in
+    takes_suffix Two j c.args.two.now c.requires.two c.stage_digits-digits.result.now valid (subst (λ ds. AllZip (λ d r. d < r) ds (stage_radices Suffix j)) (sym e) below)
 
 pub returns-then-is_over-clause-fits : goal.returns-then-is_over-clause-fits
 returns-then-is_over-clause-fits g c =
-    not_first c.args.job.now c.args.path
-    (over_half One c.args.job.now c.args.path c.deref.result.now c.run_half.new.side.half.numbers (c.deref.ensures.0 ∙ c.digits-digits.ensures.value)
-    (holds One c.args.job.now c.args.one.now c.requires.one c.deref.result.now c.run_half.new.side.half.numbers c.run_half.ensures.after)
+    let j = c.args.job.now in
+    let e : c.stage_digits-digits.result.now ≡ stretch Suffix j (digits_of j c.args.path) =
+    c.stage_digits-digits.ensures ∙ ap (stretch Suffix j) (c.deref.ensures.0 ∙ c.digits-path_digits.ensures.value) in
+    not_first j c.args.path (over_half One j c.args.path (digits_of j c.args.path) c.run_half.new.side.half.numbers refl (holds One j c.args.one.now c.requires.one c.args.range c.args.path c.stage_digits-digits.result.now c.run_half.new.side.half.numbers c.requires.valid c.requires.range c.requires.below
+    c.requires.one_root e c.run_half.ensures.after)
     (c.is_over.ensures.value.0 c.if-is_over.true))
 
 pub returns-then-is_over-clause-steps : goal.returns-then-is_over-clause-steps
 returns-then-is_over-clause-steps g c =
-    let s : c.run_half.new.steps ≡ c.args.steps.now + gates_in One c.args.job.now = steps_are One c.args.job.now c.args.one.now c.requires.one c.args.steps.now c.run_half.new.steps c.run_half.ensures.step in
+    let a = suffix_steps One c.args.job.now c.args.one.now c.requires.one in
+    let s = c.run_half.ensures.step in
     omega arith
 
 pub returns-then-is_over-2-clause-fits : goal.returns-then-is_over-2-clause-fits
 returns-then-is_over-2-clause-fits g c =
-    not_second c.args.job.now c.args.path
-    (over_half Two c.args.job.now c.args.path c.deref-2.result.now c.run_half-2.new.side.half.numbers (c.deref-2.ensures.0 ∙ c.digits-digits.ensures.value)
-    (holds Two c.args.job.now c.args.two.now c.requires.two c.deref-2.result.now c.run_half-2.new.side.half.numbers c.run_half-2.ensures.after)
+    let j = c.args.job.now in
+    let e : c.stage_digits-digits.result.now ≡ stretch Suffix j (digits_of j c.args.path) =
+    c.stage_digits-digits.ensures ∙ ap (stretch Suffix j) (c.deref.ensures.0 ∙ c.digits-path_digits.ensures.value) in
+    not_second j c.args.path (over_half Two j c.args.path (digits_of j c.args.path) c.run_half-2.new.side.half.numbers refl (holds Two j c.args.two.now c.requires.two c.args.range c.args.path c.stage_digits-digits.result.now c.run_half-2.new.side.half.numbers c.requires.valid c.requires.range c.requires.below
+    c.requires.two_root e c.run_half-2.ensures.after)
     (c.is_over-2.ensures.value.0 c.if-is_over-2.true))
 
 pub returns-then-is_over-2-clause-steps : goal.returns-then-is_over-2-clause-steps
 returns-then-is_over-2-clause-steps g c =
-    let s : c.run_half.new.steps ≡ c.args.steps.now + gates_in One c.args.job.now = steps_are One c.args.job.now c.args.one.now c.requires.one c.args.steps.now c.run_half.new.steps c.run_half.ensures.step in
-    let t : c.run_half-2.new.steps ≡ c.run_half.new.steps + gates_in Two c.args.job.now = steps_are Two c.args.job.now c.args.two.now c.requires.two c.run_half.new.steps c.run_half-2.new.steps c.run_half-2.ensures.step in
+    let a = suffix_steps One c.args.job.now c.args.one.now c.requires.one in
+    let s = c.run_half.ensures.step in
+    let b = suffix_steps Two c.args.job.now c.args.two.now c.requires.two in
+    let t = c.run_half-2.ensures.step in
     omega arith
 
 pub returns-clause-fits : goal.returns-clause-fits
 returns-clause-fits g c =
-    let x = held_half One c.args.job.now c.args.path c.deref.result.now c.run_half.new.side.half.numbers (c.deref.ensures.0 ∙ c.digits-digits.ensures.value)
-    (holds One c.args.job.now c.args.one.now c.requires.one c.deref.result.now c.run_half.new.side.half.numbers c.run_half.ensures.after)
+    let j = c.args.job.now in
+    let e : c.stage_digits-digits.result.now ≡ stretch Suffix j (digits_of j c.args.path) =
+    c.stage_digits-digits.ensures ∙ ap (stretch Suffix j) (c.deref.ensures.0 ∙ c.digits-path_digits.ensures.value) in
+    let x = held_half One j c.args.path (digits_of j c.args.path) c.run_half.new.side.half.numbers refl (holds One j c.args.one.now c.requires.one c.args.range c.args.path c.stage_digits-digits.result.now c.run_half.new.side.half.numbers c.requires.valid c.requires.range c.requires.below
+    c.requires.one_root e c.run_half.ensures.after)
     (λ o. both_ways c.is_over.result c.if-is_over.false (c.is_over.ensures.value.1 o)) in
-    let y = held_half Two c.args.job.now c.args.path c.deref-2.result.now c.run_half-2.new.side.half.numbers (c.deref-2.ensures.0 ∙ c.digits-digits.ensures.value)
-    (holds Two c.args.job.now c.args.two.now c.requires.two c.deref-2.result.now c.run_half-2.new.side.half.numbers c.run_half-2.ensures.after)
+    let y = held_half Two j c.args.path (digits_of j c.args.path) c.run_half-2.new.side.half.numbers refl (holds Two j c.args.two.now c.requires.two c.args.range c.args.path c.stage_digits-digits.result.now c.run_half-2.new.side.half.numbers c.requires.valid c.requires.range c.requires.below
+    c.requires.two_root e c.run_half-2.ensures.after)
     (λ o. both_ways c.is_over-2.result c.if-is_over-2.false (c.is_over-2.ensures.value.1 o)) in
-    fits_both c.args.job.now c.args.path c.run_half.new.side.half.numbers c.run_half-2.new.side.half.numbers x.1 y.1 c.add_products.result x.0 y.0 c.add_products.ensures.fits
+    fits_both j c.args.path c.run_half.new.side.half.numbers c.run_half-2.new.side.half.numbers x.1 y.1 c.add_products.result x.0 y.0 c.add_products.ensures.fits
 
 pub returns-clause-sums : goal.returns-clause-sums
-returns-clause-sums g c = λ t.
-    let x = held_half One c.args.job.now c.args.path c.deref.result.now c.run_half.new.side.half.numbers (c.deref.ensures.0 ∙ c.digits-digits.ensures.value)
-    (holds One c.args.job.now c.args.one.now c.requires.one c.deref.result.now c.run_half.new.side.half.numbers c.run_half.ensures.after)
+returns-clause-sums g c =
+    let j = c.args.job.now in
+    let e : c.stage_digits-digits.result.now ≡ stretch Suffix j (digits_of j c.args.path) =
+    c.stage_digits-digits.ensures ∙ ap (stretch Suffix j) (c.deref.ensures.0 ∙ c.digits-path_digits.ensures.value) in
+    let x = held_half One j c.args.path (digits_of j c.args.path) c.run_half.new.side.half.numbers refl (holds One j c.args.one.now c.requires.one c.args.range c.args.path c.stage_digits-digits.result.now c.run_half.new.side.half.numbers c.requires.valid c.requires.range c.requires.below
+    c.requires.one_root e c.run_half.ensures.after)
     (λ o. both_ways c.is_over.result c.if-is_over.false (c.is_over.ensures.value.1 o)) in
-    let y = held_half Two c.args.job.now c.args.path c.deref-2.result.now c.run_half-2.new.side.half.numbers (c.deref-2.ensures.0 ∙ c.digits-digits.ensures.value)
-    (holds Two c.args.job.now c.args.two.now c.requires.two c.deref-2.result.now c.run_half-2.new.side.half.numbers c.run_half-2.ensures.after)
+    let y = held_half Two j c.args.path (digits_of j c.args.path) c.run_half-2.new.side.half.numbers refl (holds Two j c.args.two.now c.requires.two c.args.range c.args.path c.stage_digits-digits.result.now c.run_half-2.new.side.half.numbers c.requires.valid c.requires.range c.requires.below
+    c.requires.two_root e c.run_half-2.ensures.after)
     (λ o. both_ways c.is_over-2.result c.if-is_over-2.false (c.is_over-2.ensures.value.1 o)) in
-    sums_both c.args.job.now c.args.path c.run_half.new.side.half.numbers c.run_half-2.new.side.half.numbers x.1 y.1 c.args.sums.now c.add_products.new.sums (c.add_products.ensures.sums t)
+    λ t. sums_both j c.args.path c.run_half.new.side.half.numbers c.run_half-2.new.side.half.numbers x.1 y.1 c.args.sums.now c.add_products.new.sums (c.add_products.ensures.sums t)
 
 pub returns-clause-steps : goal.returns-clause-steps
 returns-clause-steps g c =
-    let s : c.run_half.new.steps ≡ c.args.steps.now + gates_in One c.args.job.now = steps_are One c.args.job.now c.args.one.now c.requires.one c.args.steps.now c.run_half.new.steps c.run_half.ensures.step in
-    let t : c.run_half-2.new.steps ≡ c.run_half.new.steps + gates_in Two c.args.job.now = steps_are Two c.args.job.now c.args.two.now c.requires.two c.run_half.new.steps c.run_half-2.new.steps c.run_half-2.ensures.step in
+    let a = suffix_steps One c.args.job.now c.args.one.now c.requires.one in
+    let s = c.run_half.ensures.step in
+    let b = suffix_steps Two c.args.job.now c.args.two.now c.requires.two in
+    let t = c.run_half-2.ensures.step in
     omega arith

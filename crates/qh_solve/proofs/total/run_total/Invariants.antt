@@ -5,4 +5,7 @@ use Rattle.qh_solve.specs.Totals.{total_of}
 use Rattle.qh_solve.proofs.total.run_total.Given as goal
 
 abbrev pub invariant-loop-range : goal.invariant-loop-range
-invariant-loop-range g l = total_of (arc_value l.job) l.range ≡ Sum l.sums.items
+invariant-loop-range g l = record {
+  room : l.room ≡ arc_value l.job;
+  total : total_of (arc_value l.job) l.range ≡ Sum l.sums.items;
+}
