@@ -54,7 +54,7 @@ pub fn barrier<D: Disk>(disk: &mut D) -> Result<u64, Failed>
     disk.len()
 }
 
-/// The bytes of a file of so many, up to the most that are asked for.
+/// The bytes of a file of so many, up to the most that are asked for. An empty file is not read.
 #[tactic(auto, using(crate::proofs::ReadingLemmas::only_reads_call, crate::proofs::ReadingLemmas::only_reads_same))]
 pub fn read_front<D: Disk>(
     alloc: Global,
@@ -69,6 +69,9 @@ pub fn read_front<D: Disk>(
     ensures reading { OnlyReads (D.face disk.old) (D.face disk.new) }
     ensures same { D.loans disk.new ≡ D.loans disk.old }
 {
+    if count == 0 {
+        return Ok(Vec::new(alloc));
+    }
     let size = (most as u64).min(count) as usize;
     let mut front = vec![in alloc; 0; size]?;
     disk.read_at(0, &mut front)?;
