@@ -30,10 +30,6 @@ each_kind p h kind = found_holds p (λ k. bytes_eq (name_text k) (name_text kind
 pub one_or_two : (kind : Kind) → (qubits_of kind ≡ 1) ⊎ (qubits_of kind ≡ 2)
 one_or_two kind = cases_cond _ 1 2 (qubits_of kind) refl
 
--- the same, by its other name
-pub arity_cases : (kind : Kind) → (qubits_of kind ≡ 1) ⊎ (qubits_of kind ≡ 2)
-arity_cases = one_or_two
-
 abbrev is_known : Kind → Bool
 is_known k = qubits_of k == 1 || (length (terms_of k) == 1 || (length (terms_of k) == 2 || length (terms_of k) == 4))
 
