@@ -8,6 +8,7 @@
 //! It knows nothing of journals, leases or workers.
 #![tactic(auto)]
 
+mod answers;
 mod evaluation;
 mod path;
 mod result;
@@ -15,6 +16,7 @@ mod room;
 mod side;
 mod ticket;
 
+pub use answers::{Admit, Claim, Delivery, Sweep};
 pub use evaluation::evaluate;
 pub use result::RangeResult;
 pub use room::Room;
