@@ -1,0 +1,98 @@
+-- The running total: of no verdicts, and of one more.
+use Rattle.std.proofs.Common.{◌≡◌, ◌≢◌, ℕ, zero, suc, ◌<◌, ◌≤◌, inl, inr, List, length, map, replicate, Option, Some, None, set, get_or, arith, refl, sym, ap, subst, ◌∙◌, All}
+use Rattle.std.proofs.Math.Path.{ap₂}
+use Rattle.std.proofs.lemmas.List.{get_or-set_same, get_or-set_other}
+use Rattle.std.proofs.lemmas.List.FromFn.{fill_by_all}
+use Rattle.std.proofs.lemmas.Bool.{cases_eq}
+use Rattle.qh_ring.specs.declared.number.Omega.{Omega}
+use Rattle.qh_ring.specs.Numbers.{sum, nothing, IsWithin}
+use Rattle.qh_ring.specs.States.{sum_below, at_index}
+use Rattle.qh_ring.proofs.SumLemmas.{sum_nothing}
+use Rattle.qh_plan.specs.declared.verdict.Verdict.{Verdict}
+use Rattle.qh_plan.specs.declared.verdict.Verdict.TheVariants.{Sum, Over}
+use Rattle.qh_plan.specs.Jobs.{Job, IsJob, ranges}
+use Rattle.qh_plan.specs.Ranges.{Fits}
+use Rattle.qh_plan.specs.Verdicts.{total}
+use Rattle.qh_meaning.specs.Slots.{slot_number, sum_of_slots, slot_sums, path_in, lesser, least_below, least_over, over_or, added_verdict, AreFit, AreBounded, AreFullBelow, IsFilled, AreMore}
+use Rattle.qh_meaning.proofs.SlotLemmas.{parted, bounded, one_more}
+use Rattle.qh_slots.specs.Stands.{Slots, slot_at, nones, AllFit}
+use Rattle.qh_totals.specs.Running.{Running, IsTotalOf, IsNext, IsWholeTotal}
+
+-- ---- no verdicts
+no_verdict : (n r : ℕ) → slot_at (replicate n None) r ≡ None
+no_verdict zero r = refl
+no_verdict (suc n) zero = refl
+no_verdict (suc n) (suc r) = no_verdict n r
+
+no_sum : (m n place : ℕ) → sum_of_slots (slot_at (replicate m None)) n place ≡ nothing
+no_sum m zero place = refl
+no_sum m (suc n) place = ap₂ sum (no_sum m n place) (ap (λ o. slot_number o place) (no_verdict m n)) ∙ sum_nothing nothing
+
+no_least : (m n : ℕ) → least_below (slot_at (replicate m None)) n ≡ None
+no_least m zero = refl
+no_least m (suc n) = ap₂ lesser (no_least m n) (ap path_in (no_verdict m n))
+
+at_nothing : (n k : ℕ) → k < n → at_index (replicate n nothing) k ≡ nothing
+at_nothing zero k l = absurd (omega arith)
+at_nothing (suc n) zero l = refl
+at_nothing (suc n) (suc k) l = at_nothing n k (omega arith)
+
+length_nothing : (n : ℕ) → length (replicate n nothing) ≡ n
+length_nothing zero = refl
+length_nothing (suc n) = ap suc (length_nothing n)
+
+pub total_of_nones : (j : Job) (t : Running) → t.sums ≡ replicate (length j.bits) nothing → t.over ≡ None → IsTotalOf j (nones j) t
+unfolding slot_sums least_over
+total_of_nones j t e f = record {
+  sums = e ∙ fill_by_all (sum_of_slots (slot_at (nones j)) (ranges j)) (replicate (length j.bits) nothing) (length j.bits) nothing (length_nothing _)
+      (λ k l. at_nothing (length j.bits) k l ∙ sym (no_sum (ranges j) (ranges j) k));
+  over = f ∙ sym (no_least (ranges j) (ranges j));
+}
+
+-- ---- one more verdict
+are_fit : (j : Job) (s : Slots) → AllFit j s → AreFit j (slot_at s)
+are_fit j s fit = record { each = λ r v l e. fit.each r v e }
+
+are_full : (j : Job) (s : Slots) → AllFit j s → AreFullBelow j (slot_at s)
+are_full j s fit = record { each = λ r sums l e. (fit.each r (Sum sums) e).0 }
+
+below_length : (j : Job) (s : Slots) (range : ℕ) (v : Verdict) → IsNext j s range v → range < length s
+below_length j s range v n = subst (λ (k : ℕ). range < k) (sym n.count) n.below
+
+-- the slots with it fit too
+pub fit_more : (j : Job) (s : Slots) (range : ℕ) (v : Verdict) → IsNext j s range v → AllFit j (set s range (Some v))
+fit_more j s range v n = record {
+  each = λ r w held. elim (cases_eq r range) [
+    | inl same ↦
+        let here : Some v ≡ Some w = sym (get_or-set_same s range (Some v) None (below_length j s range v n)) ∙ ap (slot_at (set s range (Some v))) (sym same) ∙ held in
+        subst (λ (n : ℕ). Fits j n w) (sym same) (subst (Fits j range) (let e : v ≡ w = cc in e) n.fits)
+    | inr other ↦ n.fit.each r w (sym (get_or-set_other s range r (Some v) None other) ∙ held)
+  ];
+}
+
+filled_more : (j : Job) (s : Slots) (range : ℕ) (v : Verdict) → IsNext j s range v → IsFilled j (slot_at s) (slot_at (set s range (Some v))) range v
+filled_more j s range v n = record {
+  below = n.below;
+  empty = n.empty;
+  filled = get_or-set_same s range (Some v) None (below_length j s range v n);
+  elsewhere = λ r other. get_or-set_other s range r (Some v) None other;
+}
+
+pub parts_more : (j : Job) (s : Slots) (range : ℕ) (v : Verdict) → IsNext j s range v → AreMore j (slot_at s) (slot_at (set s range (Some v))) v
+parts_more j s range v n = one_more j _ _ range v (are_full j _ (fit_more j s range v n)) (filled_more j s range v n)
+
+pub total_more : (j : Job) (s : Slots) (range : ℕ) (v : Verdict) (old new : Running) → IsTotalOf j s old → IsNext j s range v
+    → new.sums ≡ added_verdict old.sums v → new.over ≡ lesser old.over (path_in (Some v)) → IsTotalOf j (set s range (Some v)) new
+total_more j s range v old new t n e f =
+    let m = parts_more j s range v n in
+    record {
+      sums = e ∙ ap (λ xs. added_verdict xs v) t.sums ∙ sym m.sums;
+      over = f ∙ ap (λ o. lesser o (path_in (Some v))) t.over ∙ sym m.least;
+    }
+
+-- ---- the total of slots that fit
+pub whole_total : (j : Job) (s : Slots) (t : Running) → IsJob j → AllFit j s → IsTotalOf j s t → IsWholeTotal j s t
+whole_total j s t h fit is = record {
+  total = parted j (slot_at s) (are_full j s fit) ∙ ap₂ over_or (sym is.over) (sym is.sums);
+  within = subst (All (IsWithin 126)) (sym is.sums) (bounded j (slot_at s) h (are_fit j s fit)).sums;
+}
