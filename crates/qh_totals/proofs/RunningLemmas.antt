@@ -1,8 +1,8 @@
 -- The running total: of no verdicts, and of one more.
-use Rattle.std.proofs.Common.{◌≡◌, ◌≢◌, ℕ, zero, suc, ◌<◌, ◌≤◌, inl, inr, List, length, map, replicate, Option, Some, None, set, get_or, arith, refl, sym, ap, subst, ◌∙◌, All}
+use Rattle.std.proofs.Common.{◌≡◌, ◌≢◌, ℕ, zero, suc, ◌<◌, ◌≤◌, inl, inr, List, length, map, replicate, ◌++◌, take, drop, Option, Some, None, set, get_or, arith, refl, sym, ap, subst, ◌∙◌, All}
 use Rattle.std.proofs.Math.Path.{ap₂}
-use Rattle.std.proofs.lemmas.List.{get_or-set_same, get_or-set_other}
-use Rattle.std.proofs.lemmas.List.FromFn.{fill_by_all}
+use Rattle.std.proofs.lemmas.List.{get_or-set_same, get_or-set_other, length-set, take_at}
+use Rattle.std.proofs.lemmas.List.FromFn.{fill_by_all, length-map-range_with_len}
 use Rattle.std.proofs.lemmas.Bool.{cases_eq}
 use Rattle.qh_ring.specs.declared.number.Omega.{Omega}
 use Rattle.qh_ring.specs.Numbers.{sum, nothing, IsWithin}
@@ -12,7 +12,7 @@ use Rattle.qh_plan.specs.declared.verdict.Verdict.{Verdict}
 use Rattle.qh_plan.specs.declared.verdict.Verdict.TheVariants.{Sum, Over}
 use Rattle.qh_plan.specs.Jobs.{Job, IsJob, ranges}
 use Rattle.qh_plan.specs.Ranges.{Fits}
-use Rattle.qh_plan.specs.Verdicts.{total}
+use Rattle.qh_plan.specs.Verdicts.{added, total}
 use Rattle.qh_meaning.specs.Slots.{slot_number, sum_of_slots, slot_sums, path_in, lesser, least_below, least_over, over_or, added_verdict, AreFit, AreBounded, AreFullBelow, IsFilled, AreMore}
 use Rattle.qh_meaning.proofs.SlotLemmas.{parted, bounded, one_more}
 use Rattle.qh_slots.specs.Stands.{Slots, slot_at, nones, AllFit}
@@ -32,19 +32,19 @@ no_least : (m n : ℕ) → least_below (slot_at (replicate m None)) n ≡ None
 no_least m zero = refl
 no_least m (suc n) = ap₂ lesser (no_least m n) (ap path_in (no_verdict m n))
 
+length_replicate : {X : Type 0} (n : ℕ) (x : X) → length (replicate n x) ≡ n
+length_replicate zero x = refl
+length_replicate (suc n) x = ap suc (length_replicate n x)
+
 at_nothing : (n k : ℕ) → k < n → at_index (replicate n nothing) k ≡ nothing
 at_nothing zero k l = absurd (omega arith)
 at_nothing (suc n) zero l = refl
 at_nothing (suc n) (suc k) l = at_nothing n k (omega arith)
 
-length_nothing : (n : ℕ) → length (replicate n nothing) ≡ n
-length_nothing zero = refl
-length_nothing (suc n) = ap suc (length_nothing n)
-
 pub total_of_nones : (j : Job) (t : Running) → t.sums ≡ replicate (length j.bits) nothing → t.over ≡ None → IsTotalOf j (nones j) t
 unfolding slot_sums least_over
 total_of_nones j t e f = record {
-  sums = e ∙ fill_by_all (sum_of_slots (slot_at (nones j)) (ranges j)) (replicate (length j.bits) nothing) (length j.bits) nothing (length_nothing _)
+  sums = e ∙ fill_by_all (sum_of_slots (slot_at (nones j)) (ranges j)) (replicate (length j.bits) nothing) (length j.bits) nothing (length_replicate (length j.bits) nothing)
       (λ k l. at_nothing (length j.bits) k l ∙ sym (no_sum (ranges j) (ranges j) k));
   over = f ∙ sym (no_least (ranges j) (ranges j));
 }
@@ -89,6 +89,53 @@ total_more j s range v old new t n e f =
       sums = e ∙ ap (λ xs. added_verdict xs v) t.sums ∙ sym m.sums;
       over = f ∙ ap (λ o. lesser o (path_in (Some v))) t.over ∙ sym m.least;
     }
+
+-- numbers name no path
+pub no_path : (o : Option ℕ) → o ≡ lesser o None
+no_path None = refl
+no_path (Some path) = refl
+
+-- the sums that are written over all the old ones are what stands there
+pub written_whole : (n : ℕ) (xs ys : List Omega) → n ≡ length ys → length xs ≡ length ys → take n (xs ++ drop (length xs) ys) ≡ xs
+written_whole n xs ys e f = take_at xs (drop (length xs) ys) n (sym (e ∙ sym f))
+
+-- what the numbers of a verdict have to do with the sums they are added to
+pub record AreEven (old more : List Omega) : Type 0 where
+  pub length_is : length old ≡ length more
+  pub within : All (IsWithin 126) (added old more)
+
+pub are_even : (j : Job) (s : Slots) (range : ℕ) (t : Running) (more : List Omega) → IsJob j → IsTotalOf j s t → IsNext j s range (Sum more) → AreEven t.sums more
+unfolding slot_sums
+are_even j s range t more h is n = record {
+  length_is = ap (length {A = Omega}) is.sums ∙ length-map-range_with_len (sum_of_slots (slot_at s) (ranges j)) 0 (length j.bits) ∙ sym n.fits.0;
+  within = subst (All (IsWithin 126)) ((parts_more j s range (Sum more) n).sums ∙ ap (λ xs. added xs more) (sym is.sums))
+      (bounded j (slot_at (set s range (Some (Sum more)))) h (are_fit j _ (fit_more j s range (Sum more) n))).sums;
+}
+
+-- ---- which verdicts are next
+-- the first verdict of slots that have none
+pub next_of_nones : (j : Job) (range : ℕ) (v : Verdict) → range < ranges j → Fits j range v → IsNext j (nones j) range v
+next_of_nones j range v l fits = record {
+  count = length_replicate (ranges j) None;
+  fit = record { each = λ r w held. absurd (no_held w (sym (no_verdict (ranges j) r) ∙ held)) };
+  below = l;
+  empty = no_verdict (ranges j) range;
+  fits = fits;
+}
+  where
+    no_held : (w : Verdict) → None ≡ Some w → ⊥
+    no_held w e = cc
+
+-- the verdict of another range, once one is added
+pub next_more : (j : Job) (s : Slots) (range other : ℕ) (v w : Verdict) → IsNext j s range v → other ≢ range → other < ranges j
+    → slot_at s other ≡ None → Fits j other w → IsNext j (set s range (Some v)) other w
+next_more j s range other v w n ne l e fits = record {
+  count = length-set s range (Some v) ∙ n.count;
+  fit = fit_more j s range v n;
+  below = l;
+  empty = get_or-set_other s range other (Some v) None ne ∙ e;
+  fits = fits;
+}
 
 -- ---- the total of slots that fit
 pub whole_total : (j : Job) (s : Slots) (t : Running) → IsJob j → AllFit j s → IsTotalOf j s t → IsWholeTotal j s t
