@@ -1,25 +1,27 @@
 -- The running total: of no verdicts, and of one more.
-use Rattle.std.proofs.Common.{◌≡◌, ◌≢◌, ℕ, zero, suc, ◌<◌, ◌≤◌, inl, inr, List, length, map, replicate, ◌++◌, take, drop, Option, Some, None, set, get_or, arith, refl, sym, ap, subst, ◌∙◌, All}
+use Rattle.std.proofs.Common.{◌≡◌, ◌≢◌, ℕ, zero, suc, ◌<◌, inl, inr, List, length, replicate, ◌++◌}
+use Rattle.std.proofs.Common.{take, drop, Option, Some, None, set, arith, refl, sym, ap, subst, ◌∙◌, All}
 use Rattle.std.proofs.Math.Path.{ap₂}
-use Rattle.std.proofs.lemmas.List.{get_or-set_same, get_or-set_other, length-set, take_at}
+use Rattle.std.proofs.lemmas.List.{get_or-set_same, get_or-set_other, length-set, length-replicate, take_at}
 use Rattle.std.proofs.lemmas.List.FromFn.{fill_by_all, length-map-range_with_len}
 use Rattle.std.proofs.lemmas.Bool.{cases_eq}
 use Rattle.qh_ring.specs.declared.number.Omega.{Omega}
 use Rattle.qh_ring.specs.Numbers.{sum, nothing, IsWithin}
-use Rattle.qh_ring.specs.States.{sum_below, at_index}
+use Rattle.qh_ring.specs.States.{at_index}
 use Rattle.qh_ring.proofs.SumLemmas.{sum_nothing}
 use Rattle.qh_plan.specs.declared.verdict.Verdict.{Verdict}
-use Rattle.qh_plan.specs.declared.verdict.Verdict.TheVariants.{Sum, Over}
+use Rattle.qh_plan.specs.declared.verdict.Verdict.TheVariants.{Sum}
 use Rattle.qh_plan.specs.Jobs.{Job, IsJob, ranges}
 use Rattle.qh_plan.specs.Ranges.{Fits}
-use Rattle.qh_plan.specs.Verdicts.{added, total}
-use Rattle.qh_meaning.specs.Slots.{slot_number, sum_of_slots, slot_sums, path_in, lesser, least_below, least_over, over_or, added_verdict, AreFit, AreBounded, AreFullBelow, IsFilled, AreMore}
+use Rattle.qh_plan.specs.Verdicts.{added}
+use Rattle.qh_meaning.specs.Slots.{slot_number, sum_of_slots, slot_sums, path_in, lesser, least_below}
+use Rattle.qh_meaning.specs.Slots.{least_over, over_or, added_verdict, AreFit, AreFullBelow, IsFilled, AreMore}
 use Rattle.qh_meaning.proofs.SlotLemmas.{parted, bounded, one_more}
 use Rattle.qh_slots.specs.Stands.{Slots, slot_at, nones, AllFit}
 use Rattle.qh_totals.specs.Running.{Running, IsTotalOf, IsNext, IsWholeTotal}
 
 -- ---- no verdicts
-no_verdict : (n r : ℕ) → slot_at (replicate n None) r ≡ None
+pub no_verdict : (n r : ℕ) → slot_at (replicate n None) r ≡ None
 no_verdict zero r = refl
 no_verdict (suc n) zero = refl
 no_verdict (suc n) (suc r) = no_verdict n r
@@ -32,10 +34,6 @@ no_least : (m n : ℕ) → least_below (slot_at (replicate m None)) n ≡ None
 no_least m zero = refl
 no_least m (suc n) = ap₂ lesser (no_least m n) (ap path_in (no_verdict m n))
 
-length_replicate : {X : Type 0} (n : ℕ) (x : X) → length (replicate n x) ≡ n
-length_replicate zero x = refl
-length_replicate (suc n) x = ap suc (length_replicate n x)
-
 at_nothing : (n k : ℕ) → k < n → at_index (replicate n nothing) k ≡ nothing
 at_nothing zero k l = absurd (omega arith)
 at_nothing (suc n) zero l = refl
@@ -44,7 +42,9 @@ at_nothing (suc n) (suc k) l = at_nothing n k (omega arith)
 pub total_of_nones : (j : Job) (t : Running) → t.sums ≡ replicate (length j.bits) nothing → t.over ≡ None → IsTotalOf j (nones j) t
 unfolding slot_sums least_over
 total_of_nones j t e f = record {
-  sums = e ∙ fill_by_all (sum_of_slots (slot_at (nones j)) (ranges j)) (replicate (length j.bits) nothing) (length j.bits) nothing (length_replicate (length j.bits) nothing)
+  sums = e
+      ∙ fill_by_all (sum_of_slots (slot_at (nones j)) (ranges j)) (replicate (length j.bits) nothing) (length j.bits) nothing
+      (length-replicate (length j.bits) nothing)
       (λ k l. at_nothing (length j.bits) k l ∙ sym (no_sum (ranges j) (ranges j) k));
   over = f ∙ sym (no_least (ranges j) (ranges j));
 }
@@ -64,7 +64,8 @@ pub fit_more : (j : Job) (s : Slots) (range : ℕ) (v : Verdict) → IsNext j s 
 fit_more j s range v n = record {
   each = λ r w held. elim (cases_eq r range) [
     | inl same ↦
-        let here : Some v ≡ Some w = sym (get_or-set_same s range (Some v) None (below_length j s range v n)) ∙ ap (slot_at (set s range (Some v))) (sym same) ∙ held in
+        let here : Some v ≡ Some w =
+        sym (get_or-set_same s range (Some v) None (below_length j s range v n)) ∙ ap (slot_at (set s range (Some v))) (sym same) ∙ held in
         subst (λ (n : ℕ). Fits j n w) (sym same) (subst (Fits j range) (let e : v ≡ w = cc in e) n.fits)
     | inr other ↦ n.fit.each r w (sym (get_or-set_other s range r (Some v) None other) ∙ held)
   ];
@@ -99,15 +100,16 @@ no_path (Some path) = refl
 pub written_whole : (n : ℕ) (xs ys : List Omega) → n ≡ length ys → length xs ≡ length ys → take n (xs ++ drop (length xs) ys) ≡ xs
 written_whole n xs ys e f = take_at xs (drop (length xs) ys) n (sym (e ∙ sym f))
 
--- what the numbers of a verdict have to do with the sums they are added to
-pub record AreEven (old more : List Omega) : Type 0 where
-  pub length_is : length old ≡ length more
+-- sums to which these numbers may be added
+pub record AreAddable (old more : List Omega) : Type 0 where
+  pub even : length old ≡ length more
   pub within : All (IsWithin 126) (added old more)
 
-pub are_even : (j : Job) (s : Slots) (range : ℕ) (t : Running) (more : List Omega) → IsJob j → IsTotalOf j s t → IsNext j s range (Sum more) → AreEven t.sums more
+pub are_addable : (j : Job) (s : Slots) (range : ℕ) (t : Running) (more : List Omega) → IsJob j → IsTotalOf j s t → IsNext j s range (Sum more)
+    → AreAddable t.sums more
 unfolding slot_sums
-are_even j s range t more h is n = record {
-  length_is = ap (length {A = Omega}) is.sums ∙ length-map-range_with_len (sum_of_slots (slot_at s) (ranges j)) 0 (length j.bits) ∙ sym n.fits.0;
+are_addable j s range t more h is n = record {
+  even = ap (length {A = Omega}) is.sums ∙ length-map-range_with_len (sum_of_slots (slot_at s) (ranges j)) 0 (length j.bits) ∙ sym n.fits.0;
   within = subst (All (IsWithin 126)) ((parts_more j s range (Sum more) n).sums ∙ ap (λ xs. added xs more) (sym is.sums))
       (bounded j (slot_at (set s range (Some (Sum more)))) h (are_fit j _ (fit_more j s range (Sum more) n))).sums;
 }
@@ -116,7 +118,7 @@ are_even j s range t more h is n = record {
 -- the first verdict of slots that have none
 pub next_of_nones : (j : Job) (range : ℕ) (v : Verdict) → range < ranges j → Fits j range v → IsNext j (nones j) range v
 next_of_nones j range v l fits = record {
-  count = length_replicate (ranges j) None;
+  count = length-replicate (ranges j) None;
   fit = record { each = λ r w held. absurd (no_held w (sym (no_verdict (ranges j) r) ∙ held)) };
   below = l;
   empty = no_verdict (ranges j) range;

@@ -68,7 +68,13 @@ fn totals_of_two_ranges(rt: HostRuntime) -> Result<(), Fail> {
     for (range, first, second, sums, over) in [
         (0, Ok((1, 2)), Ok((30, 40)), (31, 42), None),
         (1, Ok((1, 2)), Ok((-1, 40)), (0, 42), None),
-        (0, Ok((limit, 0)), Ok((limit, -limit)), (2 * limit, -limit), None),
+        (
+            0,
+            Ok((limit, 0)),
+            Ok((limit, -limit)),
+            (2 * limit, -limit),
+            None,
+        ),
         (0, Err(1), Ok((3, 4)), (3, 4), Some(1)),
         (1, Ok((3, 4)), Err(0), (3, 4), Some(0)),
         (0, Err(1), Err(2), (0, 0), Some(1)),

@@ -49,7 +49,8 @@ impl RunningTotal {
     /// Adds the verdict of a range that had none: its numbers, or its path where that is the least.
     pub fn add(&mut self, job: &Job, range: u32, verdict: &Verdict)
         requires { CanAdd job.now self.old range verdict.now }
-        ensures { (s : Slots) → IsTotalOf job.now s self.old → IsNext job.now s range verdict.now → IsTotalOf job.now (set s range (Some verdict.now)) self.new }
+        ensures { (s : Slots) → IsTotalOf job.now s self.old → IsNext job.now s range verdict.now
+            → IsTotalOf job.now (set s range (Some verdict.now)) self.new }
     {
         prove!(range < job.ranges());
         match verdict {

@@ -1,4 +1,4 @@
-use Rattle.std.proofs.Common.{◌≡◌, ℕ, List, length, replicate, refl, ap, ◌∙◌}
+use Rattle.std.proofs.Common.{ℕ, List, length, replicate, refl, ap, ◌∙◌}
 use Rattle.qh_ring.specs.Numbers.{nothing}
 use Rattle.qh_totals.proofs.RunningLemmas.{total_of_nones}
 use Rattle.qh_totals.proofs.total.RunningTotal.new.Goals as goal
