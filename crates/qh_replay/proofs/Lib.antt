@@ -1,0 +1,6 @@
+pub mod BegunLemmas
+pub mod CourseLemmas
+pub mod HeldLemmas
+pub mod MoveLemmas
+pub mod OpeningLemmas
+pub mod ReplayLemmas
