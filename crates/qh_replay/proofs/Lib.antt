@@ -1,4 +1,5 @@
 pub mod BegunLemmas
+pub mod CountLemmas
 pub mod CourseLemmas
 pub mod HeldLemmas
 pub mod MoveLemmas

@@ -14,7 +14,8 @@ use Rattle.qh_core.specs.declared.moved.Moved.{Moved}
 use Rattle.qh_core.specs.declared.moved.Moved.TheVariants.{Done, Repeat}
 use Rattle.qh_core.specs.declared.slot_state.SlotState.{SlotState}
 use Rattle.qh_core.specs.declared.slot_state.SlotState.TheVariants.{Closed, BodyWritten, BodySafe, GateWritten, Stored}
-use Rattle.qh_core.specs.Machine.{State, slot_at, runs_for, is_out_by, is_closed, is_body_safe, is_stored, synced, with_lease, with_slot, when, step, answer_to, next}
+use Rattle.qh_core.specs.Machine.{State, slot_at, runs_for, is_out_by, is_closed, is_body_safe, is_stored, synced, with_lease, with_slot, when, step}
+use Rattle.qh_core.specs.Machine.{answer_to, next}
 use Rattle.qh_core.specs.Law.{is_done}
 use Rattle.qh_replay.specs.Noted.{storing}
 use Rattle.qh_replay.specs.Replay.{slot_for, are_done}
@@ -71,23 +72,30 @@ body_true false legal old new h k = when_true legal old new k
 within_runs : (leases : List Lease) (slots : List SlotState) (range : ℕ) → range < length leases → runs_for (running leases slots) range ≡ true
 within_runs leases slots range within = lt-ltb range (length leases) within
 
-grant_moves : (leases : List Lease) (slots : List SlotState) (range : ℕ) → range < length leases → may_grant (lease_at leases range) ≡ true → Leads (running leases slots) (Grant range ∷ []) (running (set leases range (Out (grants_of (lease_at leases range) + 1))) slots)
+grant_moves : (leases : List Lease) (slots : List SlotState) (range : ℕ) → range < length leases
+    → may_grant (lease_at leases range) ≡ true
+    → Leads (running leases slots) (Grant range ∷ []) (running (set leases range (Out (grants_of (lease_at leases range) + 1))) slots)
 grant_moves leases slots range within may =
     let s = running leases slots in
     let lease = Out (grants_of (lease_at leases range) + 1) in
     leads_one s (Grant range) (with_lease s range lease)
     (when_true (runs_for s range && may_grant (lease_at leases range)) s (with_lease s range lease) (and_from _ _ (within_runs leases slots range within) may))
 
-back_moves : (leases : List Lease) (slots : List SlotState) (range attempt : ℕ) → range < length leases → is_out_by attempt (lease_at leases range) ≡ true → Leads (running leases slots) (GiveBack range attempt ∷ []) (running (set leases range (Returned attempt)) slots)
+back_moves : (leases : List Lease) (slots : List SlotState) (range attempt : ℕ) → range < length leases
+    → is_out_by attempt (lease_at leases range) ≡ true
+    → Leads (running leases slots) (GiveBack range attempt ∷ []) (running (set leases range (Returned attempt)) slots)
 back_moves leases slots range attempt within out =
     let s = running leases slots in
     leads_one s (GiveBack range attempt) (with_lease s range (Returned attempt))
-    (when_true (runs_for s range && is_out_by attempt (lease_at leases range)) s (with_lease s range (Returned attempt)) (and_from _ _ (within_runs leases slots range within) out))
+    (when_true (runs_for s range && is_out_by attempt (lease_at leases range)) s (with_lease s range (Returned attempt))
+    (and_from _ _ (within_runs leases slots range within) out))
 
-sync_moves : (leases : List Lease) (slots slots' : List SlotState) → map synced slots ≡ slots' → Leads (running leases slots) (Sync ∷ []) (running leases slots')
+sync_moves : (leases : List Lease) (slots slots' : List SlotState) → map synced slots ≡ slots'
+    → Leads (running leases slots) (Sync ∷ []) (running leases slots')
 sync_moves leases slots slots' is = leads_one (running leases slots) Sync (running leases slots') (ap (λ x. (Done, running leases x)) is)
 
-body_moves : (leases : List Lease) (slots : List SlotState) (range : ℕ) → range < length leases → is_acked (lease_at leases range) ≡ false → slot_at slots range ≡ Closed → Leads (running leases slots) (Body range ∷ []) (running leases (set slots range BodyWritten))
+body_moves : (leases : List Lease) (slots : List SlotState) (range : ℕ) → range < length leases → is_acked (lease_at leases range) ≡ false
+    → slot_at slots range ≡ Closed → Leads (running leases slots) (Body range ∷ []) (running leases (set slots range BodyWritten))
 body_moves leases slots range within waiting closed =
     let s = running leases slots in
     leads_one s (Body range) (with_slot s range BodyWritten) (
@@ -96,7 +104,8 @@ body_moves leases slots range within waiting closed =
     (and_from _ _ (within_runs leases slots range within) (ap is_closed closed))
     )
 
-gate_moves : (leases : List Lease) (slots : List SlotState) (range : ℕ) → range < length leases → range < length slots → Leads (running leases (set slots range BodySafe)) (OpenGate range ∷ []) (running leases (set slots range GateWritten))
+gate_moves : (leases : List Lease) (slots : List SlotState) (range : ℕ) → range < length leases → range < length slots
+    → Leads (running leases (set slots range BodySafe)) (OpenGate range ∷ []) (running leases (set slots range GateWritten))
 gate_moves leases slots range within slot_within =
     let s = running leases (set slots range BodySafe) in
     leads_one s (OpenGate range) (running leases (set slots range GateWritten)) (
@@ -106,16 +115,22 @@ gate_moves leases slots range within slot_within =
     )
 
 -- where no slot is half written, a range is stored, and nothing else changes
-pub store_moves : (leases : List Lease) (slots : List SlotState) (range : ℕ) → range < length leases → range < length slots → is_acked (lease_at leases range) ≡ false → slot_at slots range ≡ Closed → map synced slots ≡ slots → Leads (running leases slots) (storing range) (running leases (set slots range Stored))
+pub store_moves : (leases : List Lease) (slots : List SlotState) (range : ℕ) → range < length leases → range < length slots
+    → is_acked (lease_at leases range) ≡ false → slot_at slots range ≡ Closed → map synced slots ≡ slots
+    → Leads (running leases slots) (storing range) (running leases (set slots range Stored))
 store_moves leases slots range within slot_within waiting closed still =
     leads_on (body_moves leases slots range within waiting closed) (
-    leads_on (sync_moves leases (set slots range BodyWritten) (set slots range BodySafe) (map-set synced slots range BodyWritten ∙ ap (λ x. set x range BodySafe) still)) (
+    leads_on (
+    sync_moves leases (set slots range BodyWritten) (set slots range BodySafe)
+    (map-set synced slots range BodyWritten ∙ ap (λ x. set x range BodySafe) still)
+    ) (
     leads_on (gate_moves leases slots range within slot_within)
     (sync_moves leases (set slots range GateWritten) (set slots range Stored) (map-set synced slots range GateWritten ∙ ap (λ x. set x range Stored) still))
     )
     )
 
-ack_moves : (leases : List Lease) (slots : List SlotState) (range : ℕ) → range < length leases → is_acked (lease_at leases range) ≡ false → slot_at slots range ≡ Stored → Leads (running leases slots) (Ack range ∷ []) (running (set leases range Acked) slots)
+ack_moves : (leases : List Lease) (slots : List SlotState) (range : ℕ) → range < length leases → is_acked (lease_at leases range) ≡ false
+    → slot_at slots range ≡ Stored → Leads (running leases slots) (Ack range ∷ []) (running (set leases range Acked) slots)
 ack_moves leases slots range within waiting stored =
     let s = running leases slots in
     leads_one s (Ack range) (with_lease s range Acked) (
@@ -138,7 +153,8 @@ slot_of_open : (leases : List Lease) (range : ℕ) → is_acked (lease_at leases
 slot_of_open leases range waiting = get_or-map slot_for leases range Fresh ∙ ap (λ b. cond b Stored Closed) waiting
 
 -- a lease that changes from open to open changes no slot
-same_slots : (leases : List Lease) (range : ℕ) (lease : Lease) → is_acked (lease_at leases range) ≡ false → is_acked lease ≡ false → map slot_for leases ≡ map slot_for (set leases range lease)
+same_slots : (leases : List Lease) (range : ℕ) (lease : Lease) → is_acked (lease_at leases range) ≡ false → is_acked lease ≡ false
+    → map slot_for leases ≡ map slot_for (set leases range lease)
 same_slots leases range lease waiting new =
     sym (
     map-set slot_for leases range lease
@@ -152,18 +168,21 @@ can_grant_open (Out attempt) h = refl
 can_grant_open (Returned attempt) h = refl
 can_grant_open Acked h = cc
 
-pub granted_leads : (leases : List Lease) (range : ℕ) → range < length leases → may_grant (lease_at leases range) ≡ true → Leads (settled leases) (Grant range ∷ []) (settled (set leases range (Out (grants_of (lease_at leases range) + 1))))
+pub granted_leads : (leases : List Lease) (range : ℕ) → range < length leases → may_grant (lease_at leases range) ≡ true
+    → Leads (settled leases) (Grant range ∷ []) (settled (set leases range (Out (grants_of (lease_at leases range) + 1))))
 granted_leads leases range within may =
     let lease = Out (grants_of (lease_at leases range) + 1) in
     leads_to (grant_moves leases (map slot_for leases) range within may)
     (ap (λ slots. running (set leases range lease) slots) (same_slots leases range lease (can_grant_open (lease_at leases range) may) refl))
 
-pub back_leads : (leases : List Lease) (range attempt : ℕ) → range < length leases → lease_at leases range ≡ Out attempt → Leads (settled leases) (GiveBack range attempt ∷ []) (settled (set leases range (Returned attempt)))
+pub back_leads : (leases : List Lease) (range attempt : ℕ) → range < length leases → lease_at leases range ≡ Out attempt
+    → Leads (settled leases) (GiveBack range attempt ∷ []) (settled (set leases range (Returned attempt)))
 back_leads leases range attempt within out =
     leads_to (back_moves leases (map slot_for leases) range attempt within (ap (is_out_by attempt) out ∙ eq-eqb attempt attempt refl))
     (ap (λ slots. running (set leases range (Returned attempt)) slots) (same_slots leases range (Returned attempt) (ap is_acked out) refl))
 
-pub acked_leads : (leases : List Lease) (range : ℕ) → range < length leases → is_acked (lease_at leases range) ≡ false → Leads (settled leases) (storing range ++ Ack range ∷ []) (settled (set leases range Acked))
+pub acked_leads : (leases : List Lease) (range : ℕ) → range < length leases → is_acked (lease_at leases range) ≡ false
+    → Leads (settled leases) (storing range ++ Ack range ∷ []) (settled (set leases range Acked))
 acked_leads leases range within waiting =
     let slots = map slot_for leases in
     let slot_within : range < length slots = subst (λ n. range < n) (sym (length-map leases slot_for)) within in
@@ -172,7 +191,8 @@ acked_leads leases range within waiting =
     (ap (λ x. running (set leases range Acked) x) (sym (map-set slot_for leases range Acked)))
     )
 
-pub halted_leads : (leases : List Lease) → Leads (settled leases) (Halt ∷ []) (record { leases = leases; slots = map slot_for leases; up = true; halted = true })
+pub halted_leads : (leases : List Lease)
+    → Leads (settled leases) (Halt ∷ []) (record { leases = leases; slots = map slot_for leases; up = true; halted = true })
 halted_leads leases = leads_one (settled leases) Halt (record { leases = leases; slots = map slot_for leases; up = true; halted = true }) refl
 
 -- a lease that is not Acked is open

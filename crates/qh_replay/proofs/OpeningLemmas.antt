@@ -1,5 +1,6 @@
 -- The start of a run: the ranges that were stored before, and then Reopen.
-use Rattle.std.proofs.Common.{◌≡◌, ℕ, zero, suc, ◌<◌, ◌≤◌, Bool, true, false, ◌||◌, cond, List, [], ◌∷◌, inl, inr, length, map, replicate, get_or, set, refl, sym, ap, ◌∙◌, subst, arith}
+use Rattle.std.proofs.Common.{◌≡◌, ℕ, zero, suc, ◌<◌, ◌≤◌, Bool, true, false, ◌||◌, cond, List, [], ◌∷◌, inl, inr, length, map, replicate, get_or}
+use Rattle.std.proofs.Common.{set, refl, sym, ap, ◌∙◌, subst, arith}
 use Rattle.std.specs.Prelude.{fold}
 use Rattle.std.proofs.lemmas.Bool.{cases_eq}
 use Rattle.std.proofs.lemmas.List.{get_or-set_same, get_or-set_other, map-set, length-map, length-set, length-replicate, ext_get_or}
@@ -38,7 +39,8 @@ length-marked : (ranges : ℕ) (begun : ℕ → Bool) (n : ℕ) → length (mark
 length-marked ranges begun zero = length-replicate ranges Closed
 length-marked ranges begun (suc n) =
     let before = length-marked ranges begun n in
-    either (λ slots. length slots ≡ ranges) (begun n) (set (marked ranges begun n) n Stored) (marked ranges begun n) (length-set (marked ranges begun n) n Stored ∙ before) before
+    either (λ slots. length slots ≡ ranges) (begun n) (set (marked ranges begun n) n Stored) (marked ranges begun n)
+    (length-set (marked ranges begun n) n Stored ∙ before) before
 
 map-replicate : (n : ℕ) → map synced (replicate n Closed) ≡ replicate n Closed
 map-replicate zero = refl
@@ -60,7 +62,8 @@ marked_above ranges begun (suc n) k h =
     (get_or-set_other (marked ranges begun n) n k Stored Closed (λ same. omega arith) ∙ before) before
 
 -- a range that is next is stored where it was begun
-marked_here : (slots : List SlotState) (n : ℕ) (b : Bool) → n < length slots → slot_at slots n ≡ Closed → slot_at (cond b (set slots n Stored) slots) n ≡ cond b Stored Closed
+marked_here : (slots : List SlotState) (n : ℕ) (b : Bool) → n < length slots → slot_at slots n ≡ Closed
+    → slot_at (cond b (set slots n Stored) slots) n ≡ cond b Stored Closed
 marked_here slots n true within closed = get_or-set_same slots n Stored Closed within
 marked_here slots n false within closed = closed
 
@@ -78,11 +81,14 @@ marked_below ranges begun (suc n) k within below = elim (cases_eq k n) [
       (get_or-set_other (marked ranges begun n) n k Stored Closed other ∙ before) before
 ]
 
-maybe_leads : (b : Bool) (leases : List Lease) (slots slots' : List SlotState) (events : List Event) → Leads (running leases slots) events (running leases slots') → Leads (running leases slots) (cond b events []) (running leases (cond b slots' slots))
+maybe_leads : (b : Bool) (leases : List Lease) (slots slots' : List SlotState) (events : List Event)
+    → Leads (running leases slots) events (running leases slots')
+    → Leads (running leases slots) (cond b events []) (running leases (cond b slots' slots))
 maybe_leads true leases slots slots' events h = h
 maybe_leads false leases slots slots' events h = leads_none (running leases slots)
 
-stored_leads : (ranges : ℕ) (begun : ℕ → Bool) (n : ℕ) → n ≤ ranges → Leads (start ranges) (stored_below begun n) (running (replicate ranges Fresh) (marked ranges begun n))
+stored_leads : (ranges : ℕ) (begun : ℕ → Bool) (n : ℕ) → n ≤ ranges
+    → Leads (start ranges) (stored_below begun n) (running (replicate ranges Fresh) (marked ranges begun n))
 stored_leads ranges begun zero within = leads_none (start ranges)
 stored_leads ranges begun (suc n) within =
     let leases = replicate ranges Fresh in
@@ -96,8 +102,10 @@ stored_leads ranges begun (suc n) within =
     )
     )
 
-reopen_leads : (leases : List Lease) (slots : List SlotState) → map survived slots ≡ slots → Leads (running leases slots) (Reopen [] ∷ []) (running (map found_lease slots) slots)
-reopen_leads leases slots is = leads_one (running leases slots) (Reopen []) (running (map found_lease slots) slots) (ap (λ x. (Done, running (map found_lease x) x)) is)
+reopen_leads : (leases : List Lease) (slots : List SlotState) → map survived slots ≡ slots
+    → Leads (running leases slots) (Reopen [] ∷ []) (running (map found_lease slots) slots)
+reopen_leads leases slots is =
+    leads_one (running leases slots) (Reopen []) (running (map found_lease slots) slots) (ap (λ x. (Done, running (map found_lease x) x)) is)
 
 survived_slot : (lease : Lease) → survived (slot_for lease) ≡ slot_for lease
 survived_slot Fresh = refl
@@ -132,7 +140,8 @@ marked_is leases =
     (λ k below. marked_below (length leases) begun (length leases) k (omega arith) (omega arith) ∙ sym (get_or-map slot_for leases k Fresh))
 
 -- the start of a run whose begun ranges are the acknowledged ones, the others being fresh
-pub opening_leads : (leases : List Lease) → ((range : ℕ) → is_found (lease_at leases range) ≡ true) → Leads (start (length leases)) (opening (length leases) (λ r. is_acked (lease_at leases r))) (settled leases)
+pub opening_leads : (leases : List Lease) → ((range : ℕ) → is_found (lease_at leases range) ≡ true)
+    → Leads (start (length leases)) (opening (length leases) (λ r. is_acked (lease_at leases r))) (settled leases)
 opening_leads leases found =
     leads_on (stored_leads (length leases) (λ r. is_acked (lease_at leases r)) (length leases) (omega arith)) (
     subst (λ slots. Leads (running (replicate (length leases) Fresh) slots) (Reopen [] ∷ []) (settled leases)) (sym (marked_is leases)) (

@@ -1,5 +1,5 @@
 -- What contracts see of a course, and that the machine gives it when its history is replayed.
-use Rattle.std.specs.Prelude.{◌≡◌, ℕ, zero, suc, Bool, true, ◌&&◌, not, if◌then◌else◌, List, [], ◌∷◌, ◌++◌, length, map, fold, Option, is_some}
+use Rattle.std.specs.Prelude.{◌≡◌, ℕ, zero, suc, Bool, true, ◌&&◌, not, if◌then◌else◌, List, [], ◌∷◌, ◌++◌, length, map, fold, Option, is_some, slice_set}
 use Rattle.std.specs.List.{flat_map}
 use Rattle.qh_lease.specs.declared.lease.Lease.{Lease}
 use Rattle.qh_lease.specs.Lease.{lease_at, is_acked}
@@ -18,6 +18,10 @@ pub record CourseView : Type 0 where
   pub leases : List Lease
   pub history : List Noted
   pub fault : Option ℕ
+
+-- a course with one lease changed and one more entry
+abbrev pub noted : CourseView → ℕ → Lease → Noted → CourseView
+noted c range lease note = record c { leases = slice_set c.leases range lease; history = c.history ++ note ∷ [] }
 
 -- not acknowledged
 abbrev pub is_open : Lease → Bool

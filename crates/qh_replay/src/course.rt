@@ -1,8 +1,9 @@
 //! The leases of a run with their history.
-ghost use Rattle.std.specs.Prelude.{◌≡◌, ◌≢◌, ◌↔◌, ◌<◌, ◌≤◌, ◌+◌, ◌++◌, ◌∷◌, [], ◌||◌, ℕ, false, length, nat_eq, replicate, slice_set, IfOk, IfSome, IfNone, IsTrue};
+ghost use Rattle.std.specs.Prelude.{◌≡◌, ◌≢◌, ◌↔◌, ◌<◌, ◌≤◌, ◌+◌, ◌++◌, ◌∷◌, [], ◌||◌, ℕ, false, length, nat_eq, replicate, slice_set, IfOk, IfSome};
+ghost use Rattle.std.specs.Prelude.{IfNone, IsTrue};
 ghost use Rattle.std.specs.Bool.{OnTrue, OnFalse};
 ghost use Rattle.qh_lease.specs.Lease.{lease_at, grants_of, is_fresh, may_grant, may_grant_out, may_grant_returned, NonePasses, IsLowest};
-ghost use Rattle.qh_replay.specs.Replay.{is_begun, is_open};
+ghost use Rattle.qh_replay.specs.Replay.{noted, is_begun, is_open};
 ghost use Rattle.qh_replay.specs.Course.{IsCourse};
 
 use crate::noted::Noted;
@@ -39,7 +40,9 @@ impl Model for Course {
 
     ghost view = { λ c. record { leases = c.leases; history = c.history.items; fault = c.fault } };
 
-    ghost invariant = { λ c. IsHeld (record { leases = c.leases; history = c.history.items; fault = c.fault }) c.ranges c.remaining ENTRIES_PER_RANGE (vec_capacity c.history) };
+    ghost invariant = { λ c.
+        let seen : CourseView = record { leases = c.leases; history = c.history.items; fault = c.fault } in
+        IsHeld seen c.ranges c.remaining ENTRIES_PER_RANGE (vec_capacity c.history) };
 }
 
 impl Course {
@@ -48,9 +51,7 @@ impl Course {
     pub fn new(alloc: Global, ranges: u32) -> Result<Course, AllocError>
         requires some { 0 < ranges }
         requires few { ranges ≤ MAX_RANGES }
-        ensures fresh { IfOk result (λ course. course.leases ≡ replicate ranges Lease.Fresh) }
-        ensures empty { IfOk result (λ course. course.history ≡ []) }
-        ensures running { IfOk result (λ course. course.fault ≡ None) }
+        ensures fresh { IfOk result (λ course. course ≡ record { leases = replicate ranges Lease.Fresh; history = []; fault = None }) }
         ensures begun { IfOk result (λ course. (r : ℕ) → is_begun course r ≡ false) }
     {
         Ok(Course {
@@ -157,7 +158,7 @@ impl Course {
         requires known { range < length self.old.leases }
         requires grantable { IsTrue (may_grant (lease_at self.old.leases range)) }
         ensures attempt { result ≡ grants_of (lease_at self.old.leases range) + 1 }
-        ensures granted { self.new ≡ record self.old { leases = slice_set self.old.leases range (Lease.Out result); history = self.old.history ++ Noted.Granted range result ∷ [] } }
+        ensures granted { self.new ≡ noted self.old range (Lease.Out result) (Noted.Granted range result) }
         ensures begun { (r : ℕ) → is_begun self.new r ≡ is_begun self.old r }
     {
         let attempt = self.leases.grant(range);
@@ -170,7 +171,7 @@ impl Course {
     /// Else nothing changes.
     pub fn give_back(&mut self, range: u32, attempt: u32) -> bool
         ensures held { IsTrue result ↔ ((self.old.fault ≡ None) × (range < length self.old.leases) × (lease_at self.old.leases range ≡ Lease.Out attempt)) }
-        ensures returned { OnTrue result (self.new ≡ record self.old { leases = slice_set self.old.leases range (Lease.Returned attempt); history = self.old.history ++ Noted.Back range attempt ∷ [] }) }
+        ensures returned { OnTrue result (self.new ≡ noted self.old range (Lease.Returned attempt) (Noted.Back range attempt)) }
         ensures same { OnFalse result (self.new ≡ self.old) }
         ensures begun { (r : ℕ) → is_begun self.new r ≡ is_begun self.old r }
     {
@@ -190,7 +191,7 @@ impl Course {
         requires known { range < length self.old.leases }
         requires waiting { lease_at self.old.leases range ≢ Lease.Acked }
         requires attempt { attempt ≤ MAX_GRANTS }
-        ensures acked { self.new ≡ record self.old { leases = slice_set self.old.leases range Lease.Acked; history = self.old.history ++ Noted.Acked range attempt ∷ [] } }
+        ensures acked { self.new ≡ noted self.old range Lease.Acked (Noted.Acked range attempt) }
         ensures begun { (r : ℕ) → is_begun self.new r ≡ is_begun self.old r }
     {
         self.leases.acknowledge(range);

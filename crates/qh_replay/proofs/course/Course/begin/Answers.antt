@@ -9,5 +9,6 @@ invariant_of-self c =
     let early : c.self.inside.history.items ≡ [] = ap (λ v. v.history) c.self.view_is ∙ c.requires.early in
     let running : c.self.inside.fault ≡ None = ap (λ v. v.fault) c.self.view_is ∙ c.requires.running in
     let within : c.args.range < length c.self.inside.leases = subst (λ v. c.args.range < length v.leases) (sym c.self.view_is) c.requires.known in
-    let fresh : lease_at c.self.inside.leases c.args.range ≡ Fresh = subst (λ v. lease_at v.leases c.args.range ≡ Fresh) (sym c.self.view_is) c.requires.fresh in
-    rw c.acknowledge.ensures (begun_held _ _ _ _ _ _ _ c.args.range c.self.invariant early running within fresh)
+    let fresh : lease_at c.self.inside.leases c.args.range ≡ Fresh =
+    subst (λ v. lease_at v.leases c.args.range ≡ Fresh) (sym c.self.view_is) c.requires.fresh in
+    rw c.acknowledge.ensures (begun_held _ _ _ _ _ c.args.range c.self.invariant early running within fresh)

@@ -11,4 +11,4 @@ invariant_of-self-2 c =
     let out : lease_at c.self.inside.leases c.args.range ≡ Out c.args.attempt = c.give_back.ensures.held.0 c.if-not-give_back.false in
     let back : c.give_back.new.self ≡ set c.self.inside.leases c.args.range (Returned c.args.attempt) = c.if-not-give_back.ensures.returned in
     rw (back, c.push_reserved.ensures.items, c.push_reserved.ensures.capacity)
-    (back_held _ _ _ _ _ _ _ c.args.range c.args.attempt c.self.invariant running within out)
+    (back_held _ _ _ _ _ c.args.range c.args.attempt c.self.invariant running within out)
