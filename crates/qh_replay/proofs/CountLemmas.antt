@@ -6,7 +6,8 @@ use Rattle.qh_lease.specs.Tally.{together}
 use Rattle.qh_replay.specs.declared.noted.Noted.{Noted}
 use Rattle.qh_replay.specs.Noted.{is_grant, is_back, is_ack, counted}
 
-count_by-push : (test : Noted → Bool) (history : List Noted) (note : Noted) → count_by test (history ++ note ∷ []) ≡ count_by test history + count_by test (note ∷ [])
+count_by-push : (test : Noted → Bool) (history : List Noted) (note : Noted)
+    → count_by test (history ++ note ∷ []) ≡ count_by test history + count_by test (note ∷ [])
 count_by-push test history note = sum_by-append (λ x. cond (test x) 1 0) history (note ∷ [])
 
 -- a history with one more entry counts what both count together

@@ -11,6 +11,8 @@
 mod course;
 mod laws;
 mod noted;
+#[cfg(test)]
+mod tests;
 
 pub use course::Course;
 pub use laws::{counts_are_small, every_course_is_a_run_of_the_machine};
