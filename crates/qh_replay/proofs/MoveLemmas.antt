@@ -37,7 +37,7 @@ and_assoc : (x y z : Bool) → (x && (y && z)) ≡ ((x && y) && z)
 and_assoc true y z = refl
 and_assoc false y z = refl
 
-are_done-append : (xs ys : List Event) (s : State) → are_done s (xs ++ ys) ≡ (are_done s xs && are_done (fold next s xs) ys)
+pub are_done-append : (xs ys : List Event) (s : State) → are_done s (xs ++ ys) ≡ (are_done s xs && are_done (fold next s xs) ys)
 are_done-append [] ys s = refl
 are_done-append (x ∷ xs) ys s =
     ap (λ b. is_done (answer_to s x) && b) (are_done-append xs ys (next s x))

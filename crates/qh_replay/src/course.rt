@@ -199,7 +199,7 @@ impl Course {
         self.history.push_reserved(Noted::Acked { range, attempt });
     }
 
-    /// Halts the run, after the disk has counted so many faults. Only readers can be called from then on.
+    /// Halts the run, after the disk has counted so many faults. Nothing changes from then on.
     pub fn halt(&mut self, faults: u64)
         requires running { self.old.fault ≡ None }
         ensures halted { self.new ≡ record self.old { fault = Some faults; history = self.old.history ++ Noted.Halted faults ∷ [] } }

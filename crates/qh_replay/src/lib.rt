@@ -15,5 +15,7 @@ mod noted;
 mod tests;
 
 pub use course::Course;
-pub use laws::{counts_are_small, every_course_is_a_run_of_the_machine};
+pub use laws::{
+    counts_are_small, each_range_is_acknowledged_once, every_course_is_a_run_of_the_machine,
+};
 pub use noted::Noted;
