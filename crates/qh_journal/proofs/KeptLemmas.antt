@@ -10,10 +10,11 @@ use Rattle.qh_disk.specs.Disk.{Face, IsSafe, Reads}
 use Rattle.qh_disk.specs.Moments.{EachImage, Lasts}
 use Rattle.qh_disk.proofs.Moments.{lasts_now, lasts_same, runs_same}
 use Rattle.qh_slots.specs.Stands.{Slots, slot_at, AllFit, Stands, Made, Holds, Shut}
-use Rattle.qh_record.specs.Moments.{StandsFor, GoesOn}
+use Rattle.qh_record.specs.Moments.{GoesOn}
 use Rattle.qh_parts.specs.Sparing.{Spares}
 use Rattle.qh_parts.specs.Groups.{AreShut, IsGroup, StandsPartly, filled, range_of, member_of}
 use Rattle.qh_parts.specs.declared.member.Member.{Member}
+use Rattle.qh_parts.proofs.PartLemmas.{spares_same}
 use Rattle.qh_parts.proofs.GroupLemmas.{filled_fits, filled_from, filled_length, partly_none}
 use Rattle.qh_journal.specs.Calls.{Went, Same, JournalView, IsJournal}
 
@@ -44,9 +45,6 @@ went_same P (Some d) all = all d
 pub went_here : {D : Type 0} (A : D → Type 0) (old : Option D) → ForSome old A → Went (λ d e. A e) old old
 went_here A None some = refl
 went_here A (Some d) some = some d refl
-
-pub spares_same : (j : Job) (d : Face) → Spares j d d
-spares_same j d = record { runs = runs_same d; none = lasts_same (λ _. ⊥) d; begun = lasts_same (StandsFor j) d; stable = λ r v. lasts_same (Holds j r v) d }
 
 pub disk_same : {D : Type 0} (face : D → Face) (loans : D → List ℕ) (j : Job) (old : Option D) → Went (λ d e. Same face loans d e × Spares j (face d) (face e)) old old
 disk_same face loans j old = went_same (λ d e. Same face loans d e × Spares j (face d) (face e)) old (λ d. (record { same = refl; runs = runs_same (face d) }, spares_same j (face d)))

@@ -3,7 +3,7 @@ ghost use Rattle.std.specs.Prelude.{◌≡◌, ◌≢◌, ◌⊎◌, ◌<◌, �
 ghost use Rattle.std.specs.Option.{IsSomeAnd, ForSome};
 ghost use Rattle.std.specs.Arc.{arc_value};
 ghost use Rattle.qh_counts.specs.Counts.{Rose};
-ghost use Rattle.qh_plan.specs.Jobs.{ranges};
+ghost use Rattle.qh_plan.specs.Jobs.{ranges, IsJob};
 ghost use Rattle.qh_plan.specs.Ranges.{Fits};
 ghost use Rattle.qh_meaning.specs.Values.{range_value};
 ghost use Rattle.qh_disk.specs.Disk.{IsSafe, Reads};
@@ -70,6 +70,7 @@ impl<D: Disk> Journal<D> {
     ) -> Result<Journal<D>, Unmade<D, AttachFault>>
         ensures job { IfOk result (λ k. (k.job ≡ arc_value job.now) × (k.failed ≡ false)) }
         ensures disk { IfOk result (λ k. IsSomeAnd k.disk (λ e. Attaches D.face D.loans disk e × IsSafe (D.face e) × Reads (D.face e) (Stands k.job k.table))) }
+        ensures valid { IsJob (arc_value job.now) }
         ensures back { IfErr result (λ u. Attaches D.face D.loans disk u.disk) }
         ensures fault { IfErr result (λ u. AttachMayFail (arc_value job.now) u.fault (D.face disk) (D.face u.disk)) }
     {

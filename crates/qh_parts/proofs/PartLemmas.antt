@@ -10,7 +10,7 @@ use Rattle.qh_disk.specs.Disk.{Face, IsImage, Reads, Becomes, overwritten, Torn,
 use Rattle.qh_disk.specs.Moments.{EachImage, Lasts}
 use Rattle.qh_disk.specs.Looks.{Looks}
 use Rattle.qh_disk.specs.declared.failed.Failed.{Failed}
-use Rattle.qh_disk.proofs.Moments.{lasts_call, lasts_on, runs_call, runs_on}
+use Rattle.qh_disk.proofs.Moments.{lasts_same, lasts_call, lasts_on, runs_same, runs_call, runs_on}
 use Rattle.qh_disk.proofs.Looking.{narrows_lasts}
 use Rattle.qh_disk.proofs.Rules.{overwritten_inside, overwritten_torn, told_before}
 use Rattle.qh_slots.specs.Layout.{mark, head, place, part, body_size}
@@ -35,7 +35,10 @@ on_always (Err e) B b = tt
 pub turns_at : (k m a n : ℕ) (old new : Face) → k ≡ a → m ≡ n → Turns (Torn k m) old new → Turns (Torn a n) old new
 turns_at k m a n old new ek em turns = subst (λ (x : ℕ). Turns (Torn x n) old new) ek (subst (λ (y : ℕ). Turns (Torn k y) old new) em turns)
 
--- ---- spares, and a family beside it: a sync, one run after another
+-- ---- spares, and a family beside it: no call, a sync, one run after another
+pub spares_same : (j : Job) (d : Face) → Spares j d d
+spares_same j d = record { runs = runs_same d; none = lasts_same (λ _. ⊥) d; begun = lasts_same (StandsFor j) d; stable = λ r v. lasts_same (Holds j r v) d }
+
 pub spares_looks : (j : Job) (old new : Face) → Looks old new → Spares j old new
 spares_looks j old new looks = record {
   runs = looks.runs;
