@@ -1,5 +1,5 @@
 -- What each call keeps of a course.
-use Rattle.std.proofs.Common.{◌≡◌, ℕ, ◌+◌, ◌*◌, ◌<◌, ◌≤◌, true, false, cond, List, [], ◌∷◌, ◌++◌, length, replicate, set, Some, None}
+use Rattle.std.proofs.Common.{◌≡◌, ℕ, ◌+◌, ◌*◌, ◌<◌, ◌≤◌, true, false, cond, [], ◌∷◌, ◌++◌, length, replicate, set, Some, None}
 use Rattle.std.proofs.Common.{refl, sym, ap, ◌∙◌, subst, arith}
 use Rattle.std.specs.Prelude.{sum_by, All, is_some}
 use Rattle.std.proofs.lemmas.Bool.{ltb-true, eq-eqb}
@@ -75,10 +75,6 @@ course_more c range lease note course running within number is_entry falls begun
       entries = subst (λ n. All (IsEntryOf n) new.history) (sym ranges) (All-push (IsEntryOf (length c.leases)) c.history note course.entries is_entry);
       room = subst (λ f. length new.history + sum_by entries_left new.leases + cond (is_some f) 0 1 ≤ 33 * length new.leases + 1) (sym running) (omega arith);
     }
-
--- the lease that a grant makes
-abbrev pub granted : List Lease → ℕ → Lease
-granted leases range = Out (grants_of (lease_at leases range) + 1)
 
 pub granted_course : (c : CourseView) (range attempt : ℕ) → IsCourse c → c.fault ≡ None → range < length c.leases → may_grant (lease_at c.leases range) ≡ true
     → attempt ≡ grants_of (lease_at c.leases range) + 1

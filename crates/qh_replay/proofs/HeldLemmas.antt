@@ -64,69 +64,69 @@ none_open leases remaining is = (
 )
 
 -- after a change of one lease
-held_set : (c new : CourseView) (ranges remaining remaining' entries capacity range : ℕ) (lease : Lease) → IsHeld c ranges remaining entries capacity
+held_set : (c new : CourseView) (ranges remaining remaining' per_range capacity range : ℕ) (lease : Lease) → IsHeld c ranges remaining per_range capacity
     → IsCourse new → new.leases ≡ set c.leases range lease → remaining' ≡ open_ranges new.leases
-    → IsHeld new ranges remaining' entries capacity
-held_set c new ranges remaining remaining' entries capacity range lease held course is left =
+    → IsHeld new ranges remaining' per_range capacity
+held_set c new ranges remaining remaining' per_range capacity range lease held course is left =
     let same : length new.leases ≡ length c.leases = ap length is ∙ length-set c.leases range lease in
     record {
       course = course;
       ranges_is = held.ranges_is ∙ sym same;
       remaining_is = left;
-      reserved = subst (λ n. n * entries ≤ capacity) (sym same) held.reserved;
+      reserved = subst (λ n. n * per_range ≤ capacity) (sym same) held.reserved;
     }
 
-pub granted_held : (c : CourseView) (ranges remaining entries capacity range attempt : ℕ) → IsHeld c ranges remaining entries capacity → c.fault ≡ None
+pub granted_held : (c : CourseView) (ranges remaining per_range capacity range attempt : ℕ) → IsHeld c ranges remaining per_range capacity → c.fault ≡ None
     → range < length c.leases → may_grant (lease_at c.leases range) ≡ true → attempt ≡ grants_of (lease_at c.leases range) + 1
-    → IsHeld (noted c range (Out attempt) (entry.Granted range attempt)) ranges remaining entries capacity
-granted_held c ranges remaining entries capacity range attempt held running within may is =
-    held_set c (noted c range (Out attempt) (entry.Granted range attempt)) ranges remaining remaining entries capacity range (Out attempt) held
+    → IsHeld (noted c range (Out attempt) (entry.Granted range attempt)) ranges remaining per_range capacity
+granted_held c ranges remaining per_range capacity range attempt held running within may is =
+    held_set c (noted c range (Out attempt) (entry.Granted range attempt)) ranges remaining remaining per_range capacity range (Out attempt) held
     (granted_course c range attempt held.course running within may is) refl
     (held.remaining_is ∙ open_ranges-set_open c.leases range (Out attempt) within (can_grant_open (lease_at c.leases range) may) refl)
 
-pub back_held : (c : CourseView) (ranges remaining entries capacity range attempt : ℕ) → IsHeld c ranges remaining entries capacity → c.fault ≡ None
+pub back_held : (c : CourseView) (ranges remaining per_range capacity range attempt : ℕ) → IsHeld c ranges remaining per_range capacity → c.fault ≡ None
     → range < length c.leases → lease_at c.leases range ≡ Out attempt
-    → IsHeld (noted c range (Returned attempt) (entry.Back range attempt)) ranges remaining entries capacity
-back_held c ranges remaining entries capacity range attempt held running within out =
-    held_set c (noted c range (Returned attempt) (entry.Back range attempt)) ranges remaining remaining entries capacity range (Returned attempt) held
+    → IsHeld (noted c range (Returned attempt) (entry.Back range attempt)) ranges remaining per_range capacity
+back_held c ranges remaining per_range capacity range attempt held running within out =
+    held_set c (noted c range (Returned attempt) (entry.Back range attempt)) ranges remaining remaining per_range capacity range (Returned attempt) held
     (back_course c range attempt held.course running within out) refl
     (held.remaining_is ∙ open_ranges-set_open c.leases range (Returned attempt) within (ap is_acked out) refl)
 
-pub acked_held : (c : CourseView) (ranges remaining entries capacity range attempt : ℕ) → IsHeld c ranges remaining entries capacity → c.fault ≡ None
+pub acked_held : (c : CourseView) (ranges remaining per_range capacity range attempt : ℕ) → IsHeld c ranges remaining per_range capacity → c.fault ≡ None
     → range < length c.leases → is_acked (lease_at c.leases range) ≡ false → attempt ≤ max_grants
-    → IsHeld (noted c range Acked (entry.Acked range attempt)) ranges (remaining - 1) entries capacity
-acked_held c ranges remaining entries capacity range attempt held running within waiting number =
-    held_set c (noted c range Acked (entry.Acked range attempt)) ranges remaining (remaining - 1) entries capacity range Acked held
+    → IsHeld (noted c range Acked (entry.Acked range attempt)) ranges (remaining - 1) per_range capacity
+acked_held c ranges remaining per_range capacity range attempt held running within waiting number =
+    held_set c (noted c range Acked (entry.Acked range attempt)) ranges remaining (remaining - 1) per_range capacity range Acked held
     (acked_course c range attempt held.course running within waiting number) refl
     (ap (λ n. n - 1) held.remaining_is ∙ open_ranges-set_acked c.leases range within waiting)
 
-pub begun_held : (c : CourseView) (ranges remaining entries capacity range : ℕ) → IsHeld c ranges remaining entries capacity → c.history ≡ []
+pub begun_held : (c : CourseView) (ranges remaining per_range capacity range : ℕ) → IsHeld c ranges remaining per_range capacity → c.history ≡ []
     → c.fault ≡ None → range < length c.leases → lease_at c.leases range ≡ Fresh
-    → IsHeld (record c { leases = set c.leases range Acked }) ranges (remaining - 1) entries capacity
-begun_held c ranges remaining entries capacity range held early running within fresh =
-    held_set c (record c { leases = set c.leases range Acked }) ranges remaining (remaining - 1) entries capacity range Acked held
+    → IsHeld (record c { leases = set c.leases range Acked }) ranges (remaining - 1) per_range capacity
+begun_held c ranges remaining per_range capacity range held early running within fresh =
+    held_set c (record c { leases = set c.leases range Acked }) ranges remaining (remaining - 1) per_range capacity range Acked held
     (begun_course c range held.course early running within fresh) refl
     (ap (λ n. n - 1) held.remaining_is ∙ open_ranges-set_acked c.leases range within (ap is_acked fresh))
 
-pub halted_held : (c : CourseView) (ranges remaining entries capacity faults : ℕ) → IsHeld c ranges remaining entries capacity → c.fault ≡ None
-    → IsHeld (record c { fault = Some faults; history = c.history ++ entry.Halted faults ∷ [] }) ranges remaining entries capacity
-halted_held c ranges remaining entries capacity faults held running = record {
+pub halted_held : (c : CourseView) (ranges remaining per_range capacity faults : ℕ) → IsHeld c ranges remaining per_range capacity → c.fault ≡ None
+    → IsHeld (record c { fault = Some faults; history = c.history ++ entry.Halted faults ∷ [] }) ranges remaining per_range capacity
+halted_held c ranges remaining per_range capacity faults held running = record {
   course = halted_course c faults held.course running;
   ranges_is = held.ranges_is;
   remaining_is = held.remaining_is;
   reserved = held.reserved;
 }
 
-pub new_held : (ranges entries capacity : ℕ) → 0 < ranges → ranges ≤ max_ranges → ranges * entries ≤ capacity
-    → IsHeld (record { leases = replicate ranges Fresh; history = []; fault = None }) ranges ranges entries capacity
-new_held ranges entries capacity some few reserved =
+pub new_held : (ranges per_range capacity : ℕ) → 0 < ranges → ranges ≤ max_ranges → ranges * per_range ≤ capacity
+    → IsHeld (record { leases = replicate ranges Fresh; history = []; fault = None }) ranges ranges per_range capacity
+new_held ranges per_range capacity some few reserved =
     let same : length (replicate ranges Fresh) ≡ ranges = length-replicate ranges Fresh in
     let sums : open_ranges (replicate ranges Fresh) ≡ ranges * 1 = sum_by-replicate one_open ranges Fresh in
     record {
       course = new_course ranges some few;
       ranges_is = sym same;
       remaining_is = omega arith;
-      reserved = subst (λ n. n * entries ≤ capacity) (sym same) reserved;
+      reserved = subst (λ n. n * per_range ≤ capacity) (sym same) reserved;
     }
 
 -- the fault of a course that is not halted

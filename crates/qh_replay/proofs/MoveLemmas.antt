@@ -4,6 +4,7 @@ use Rattle.std.specs.Prelude.{fold}
 use Rattle.std.proofs.lemmas.Bool.{and_from, eq-eqb, lt-ltb}
 use Rattle.std.proofs.lemmas.List.{get_or-set_same, set-set, set-get_or, map-set, length-map}
 use Rattle.std.proofs.lemmas.List.Sums.{fold-append}
+use Rattle.std.proofs.Math.Bool.{and_assoc}
 use Rattle.std.proofs.Math.ListN.{get_or-map}
 use Rattle.qh_lease.specs.declared.lease.Lease.{Lease}
 use Rattle.qh_lease.specs.declared.lease.Lease.TheVariants.{Fresh, Out, Returned, Acked}
@@ -33,15 +34,11 @@ pub record Leads (s : State) (events : List Event) (t : State) : Type 0 where
   pub done : are_done s events ≡ true
   pub ends : fold next s events ≡ t
 
-and_assoc : (x y z : Bool) → (x && (y && z)) ≡ ((x && y) && z)
-and_assoc true y z = refl
-and_assoc false y z = refl
-
 pub are_done-append : (xs ys : List Event) (s : State) → are_done s (xs ++ ys) ≡ (are_done s xs && are_done (fold next s xs) ys)
 are_done-append [] ys s = refl
 are_done-append (x ∷ xs) ys s =
     ap (λ b. is_done (answer_to s x) && b) (are_done-append xs ys (next s x))
-    ∙ and_assoc (is_done (answer_to s x)) (are_done (next s x) xs) (are_done (fold next (next s x) xs) ys)
+    ∙ sym (and_assoc (is_done (answer_to s x)) (are_done (next s x) xs) (are_done (fold next (next s x) xs) ys))
 
 pub leads_none : (s : State) → Leads s [] s
 leads_none s = record { done = refl; ends = refl }
@@ -145,7 +142,7 @@ synced_slot (Returned attempt) = refl
 synced_slot Acked = refl
 
 -- between two entries no slot is half written
-pub settled_is_still : (leases : List Lease) → map synced (map slot_for leases) ≡ map slot_for leases
+settled_is_still : (leases : List Lease) → map synced (map slot_for leases) ≡ map slot_for leases
 settled_is_still [] = refl
 settled_is_still (lease ∷ leases) = λ i. synced_slot lease i ∷ settled_is_still leases i
 

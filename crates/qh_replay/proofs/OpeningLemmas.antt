@@ -9,6 +9,7 @@ use Rattle.std.proofs.Math.ListN.{get_or-map}
 use Rattle.qh_lease.specs.declared.lease.Lease.{Lease}
 use Rattle.qh_lease.specs.declared.lease.Lease.TheVariants.{Fresh, Out, Returned, Acked}
 use Rattle.qh_lease.specs.Lease.{lease_at, is_fresh, is_acked}
+use Rattle.qh_lease.proofs.Lowest.{map-replicate}
 use Rattle.qh_core.specs.declared.event.Event.{Event}
 use Rattle.qh_core.specs.declared.event.Event.TheVariants.{Reopen}
 use Rattle.qh_core.specs.declared.moved.Moved.TheVariants.{Done}
@@ -42,12 +43,8 @@ length-marked ranges begun (suc n) =
     either (λ slots. length slots ≡ ranges) (begun n) (set (marked ranges begun n) n Stored) (marked ranges begun n)
     (length-set (marked ranges begun n) n Stored ∙ before) before
 
-map-replicate : (n : ℕ) → map synced (replicate n Closed) ≡ replicate n Closed
-map-replicate zero = refl
-map-replicate (suc n) = ap (λ slots. Closed ∷ slots) (map-replicate n)
-
 marked_is_still : (ranges : ℕ) (begun : ℕ → Bool) (n : ℕ) → map synced (marked ranges begun n) ≡ marked ranges begun n
-marked_is_still ranges begun zero = map-replicate ranges
+marked_is_still ranges begun zero = map-replicate synced ranges Closed
 marked_is_still ranges begun (suc n) =
     let before = marked_is_still ranges begun n in
     either (λ slots. map synced slots ≡ slots) (begun n) (set (marked ranges begun n) n Stored) (marked ranges begun n)

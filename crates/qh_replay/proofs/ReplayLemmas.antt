@@ -1,11 +1,11 @@
 -- The replay of a course, at its start and with one more entry.
-use Rattle.std.proofs.Common.{◌≡◌, ℕ, Bool, true, false, not, ◌&&◌, List, [], ◌∷◌, ◌++◌, length, map, None, refl, sym, ap, ◌∙◌}
+use Rattle.std.proofs.Common.{◌≡◌, ℕ, true, not, ◌&&◌, List, [], ◌∷◌, ◌++◌, length, map, None, sym, ap, ◌∙◌}
 use Rattle.std.specs.Prelude.{fold, is_some}
 use Rattle.std.specs.List.{flat_map}
 use Rattle.std.proofs.lemmas.Bool.{and_from}
 use Rattle.std.proofs.lemmas.List.{append-nil, flat_map_more}
 use Rattle.std.proofs.lemmas.List.Sums.{fold-append}
-use Rattle.std.proofs.Math.Bool.{and-true}
+use Rattle.std.proofs.Math.Bool.{and-true, and_assoc}
 use Rattle.qh_lease.specs.Lease.{lease_at, is_acked}
 use Rattle.qh_core.specs.Machine.{State, lease_of, start, after, next}
 use Rattle.qh_replay.specs.declared.noted.Noted.{Noted}
@@ -18,17 +18,13 @@ use Rattle.qh_replay.proofs.OpeningLemmas.{is_found, opening_leads, opened_is_fo
 pub machine_runs : (c : CourseView) → c.fault ≡ None → machine_of c ≡ settled c.leases
 machine_runs c running = λ i. record { leases = c.leases; slots = map slot_for c.leases; up = true; halted = is_some (running i) }
 
-and_assoc : (x y z : Bool) → (x && (y && z)) ≡ ((x && y) && z)
-and_assoc true y z = refl
-and_assoc false y z = refl
-
 are_named-append : (history : List Noted) (note : Noted) (s : State)
     → are_named s (history ++ note ∷ []) ≡ (are_named s history && is_named (fold next s (flat_map events_of history)) note)
 are_named-append [] note s = and-true (is_named s note)
 are_named-append (first ∷ history) note s =
     let s' : State = fold next s (events_of first) in
     ap (λ b. is_named s first && b) (are_named-append history note s')
-    ∙ (and_assoc (is_named s first) (are_named s' history) (is_named (fold next s' (flat_map events_of history)) note)
+    ∙ (sym (and_assoc (is_named s first) (are_named s' history) (is_named (fold next s' (flat_map events_of history)) note))
     ∙ ap (λ m. (is_named s first && are_named s' history) && is_named m note) (sym (fold-append next s (events_of first) (flat_map events_of history))))
 
 -- one more entry, whose events the machine takes

@@ -28,8 +28,8 @@ pub record IsCourse (c : CourseView) : Type 0 where
   pub room : length c.history + sum_by entries_left c.leases + (if is_some c.fault then 0 else 1) ≤ (2 * max_grants + 1) * length c.leases + 1
 
 -- a course with the number of its ranges, that of its open ones, and room for so many entries a range
-pub record IsHeld (c : CourseView) (ranges remaining entries capacity : ℕ) : Type 0 where
+pub record IsHeld (c : CourseView) (ranges remaining per_range capacity : ℕ) : Type 0 where
   pub course : IsCourse c
   pub ranges_is : ranges ≡ length c.leases
   pub remaining_is : remaining ≡ open_ranges c.leases
-  pub reserved : length c.leases * entries ≤ capacity
+  pub reserved : length c.leases * per_range ≤ capacity
