@@ -1,0 +1,4 @@
+-- Lemmas that the crates above cite.
+pub mod OptionLemmas
+pub mod EmptyLemmas
+pub mod MomentLemmas
