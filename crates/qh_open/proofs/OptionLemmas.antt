@@ -40,6 +40,10 @@ pub has_is_some : {T : Type 0} (o : Option T) (x : T) → o ≡ Some x → is_so
 has_is_some None x is = absurd cc
 has_is_some (Some y) x is = refl
 
+-- one tells where the other does
+pub same_told : (o p : Option (List ℕ)) (f : List ℕ) → is_some p ≡ is_some o → o ≡ Some f → Has p (λ g. Unit {0})
+same_told o p f same is = is_some_has p (same ∙ has_is_some o f is)
+
 pub map_has : {T U : Type 0} (f : T → U) (o : Option T) (y : U) → option_map f o ≡ Some y → Has o (λ x. f x ≡ y)
 map_has f None y is = absurd cc
 map_has f (Some x) y is = record { value = x; is = refl; holds = (let same : f x ≡ y = cc in same) }

@@ -102,22 +102,47 @@ fn open_kept<D: Disk, F: Disk>(
 {
     match Journal::attach(alloc, disk, job) {
         Ok(journal) => Ok(journal),
-        Err(Unmade {
-            disk,
-            fault: AttachFault::Empty,
-        }) => open_empty(alloc, disk, old, job, taking),
-        Err(Unmade { disk, fault }) => Err(Unmade {
-            disk,
-            fault: attach_fault(fault),
-        }),
+        Err(Unmade { disk, fault }) => match fault {
+            AttachFault::Empty => open_empty(alloc, disk, old, job, taking),
+            why => Err(Unmade {
+                disk,
+                fault: attach_fault(why),
+            }),
+        },
     }
+}
+
+/// The journal on a disk that is emptied first.
+fn open_fresh<D: Disk, F: Disk>(
+    alloc: Global,
+    mut disk: D,
+    old: &mut F,
+    job: &Arc<Job>,
+    taking: bool,
+) -> Result<Journal<D>, Unmade<D, OpenFault>>
+    ensures job { IfOk result (λ k. (k.job ≡ arc_value job.now) × (k.failed ≡ false)) }
+    ensures opened { IfOk result (λ k. IsSomeAnd k.disk (Opens D.face D.loans (keeping true taking) (arc_value job.now) (F.face old.old) disk k.table)) }
+    ensures back { IfErr result (λ u. HandsBack D.face D.loans (keeping true taking) (arc_value job.now) (F.face old.old) disk u.disk) }
+    ensures fault { IfErr result (λ u. OpenMayFail (keeping true taking) (arc_value job.now) u.fault (F.face old.old) (F.face old.new) (D.face disk) (D.face u.disk)) }
+    ensures reading { IsReadOnly (F.face old.old) (F.face old.new) }
+    ensures old_runs { Runs (F.face old.old) (F.face old.new) }
+    ensures old_same { F.loans old.new ≡ F.loans old.old }
+    ensures not_taking { taking ≡ false → old.new ≡ old.old }
+{
+    let Ok(()) = wipe(&mut disk) else {
+        return Err(Unmade {
+            disk,
+            fault: OpenFault::Disk,
+        });
+    };
+    open_kept(alloc, disk, old, job, taking)
 }
 
 /// Opens the journal of a job's run. Where it is to be fresh, it is emptied first. An empty one is made new, or, where that is asked for, takes over the
 /// journal of the first format that `old` holds. The disk is handed back with what stops it. Want of memory may come at each step.
 pub fn open_journal<D: Disk, F: Disk>(
     alloc: Global,
-    mut disk: D,
+    disk: D,
     old: &mut F,
     job: &Arc<Job>,
     fresh: bool,
@@ -135,11 +160,8 @@ pub fn open_journal<D: Disk, F: Disk>(
     ensures not_taking { taking ≡ false → old.new ≡ old.old }
     ensures old_unasked { fresh ≡ false → IsSomeAnd (D.face disk).content (λ f. f ≢ []) → old.new ≡ old.old }
 {
-    if fresh && wipe(&mut disk).is_err() {
-        return Err(Unmade {
-            disk,
-            fault: OpenFault::Disk,
-        });
+    if fresh {
+        return open_fresh(alloc, disk, old, job, taking);
     }
     open_kept(alloc, disk, old, job, taking)
 }
