@@ -9,3 +9,4 @@ pub mod FaultLemmas
 pub mod FreshLemmas
 pub mod HandLemmas
 pub mod RunLemmas
+pub mod AnswerLemmas
