@@ -1,5 +1,5 @@
 -- Where no count of faults rose and the disks tell, what they tell fixes the answer of an opening, but for want of memory.
-use Rattle.std.proofs.Common.{◌≡◌, ◌≢◌, ◌⊎◌, inl, inr, ℕ, Bool, true, false, List, [], Option, Some, None, refl, sym, ap, ◌∙◌}
+use Rattle.std.proofs.Common.{◌≡◌, ◌≢◌, ◌⊎◌, inl, inr, ℕ, Bool, true, List, [], Some, None, refl, sym, ap, ◌∙◌}
 use Rattle.std.proofs.lemmas.Bool.{false≢true}
 use Rattle.std.specs.Prelude.{IfSome, IsSomeAnd}
 use Rattle.qh_counts.specs.Counts.{Rose}
@@ -27,7 +27,8 @@ pub record IsOldRefused (why : AttachFault) (stop : OpenFault) : Type 0 where
 module _ (fresh taking : Bool) (j : Job) (was now disk after : Face) (quiet : Rose disk.faults after.faults → ⊥)
     (old_quiet : Rose was.faults now.faults → ⊥) where
   -- a file that counts as empty is refused for that alone
-  counts_empty : (f : List ℕ) (why : AttachFault) → counted (keeping fresh taking) f ≡ [] → first_refusal j (counted (keeping fresh taking) f) ≡ Some why → why ≡ Empty
+  counts_empty : (f : List ℕ) (why : AttachFault) → counted (keeping fresh taking) f ≡ [] → first_refusal j (counted (keeping fresh taking) f) ≡ Some why
+      → why ≡ Empty
   counts_empty f why none first = sym (one_value Empty why (sym (empty_refused j) ∙ ap (first_refusal j) (sym none) ∙ first))
 
   pub refused_told : (r : AttachFault) → RefusesJournal (λ known P. IsSomeAnd known P) (keeping fresh taking) j disk r → (stop : OpenFault)
@@ -63,11 +64,14 @@ module _ (fresh taking : Bool) (j : Job) (was now disk after : Face) (quiet : Ro
   never_refused f why (inl none) first other = nothing why (sym none ∙ first)
   never_refused f why (inr empty) first other = other (counts_empty f why empty.0 first)
 
-  never_old : (f : List ℕ) (why : AttachFault) → IsAccepted f → taking ≡ true → counted (keeping fresh taking) f ≡ [] → IfSome was.content (λ g. first_refusal1 j g ≡ Some why) → ⊥
+  never_old : (f : List ℕ) (why : AttachFault) → IsAccepted f → taking ≡ true → counted (keeping fresh taking) f ≡ [] → IfSome was.content
+      (λ g. first_refusal1 j g ≡ Some why) → ⊥
   never_old f why (inl none) takes empty first = nothing Empty (sym none ∙ ap (first_refusal j) empty ∙ empty_refused j)
-  never_old f why (inr old) takes empty first = let has = and_has was.content _ (old.1 takes) in nothing why (sym has.holds ∙ some_to was.content _ has.value first has.is)
+  never_old f why (inr old) takes empty first = let has = and_has was.content _ (old.1 takes) in nothing why
+      (sym has.holds ∙ some_to was.content _ has.value first has.is)
 
-  pub accepted_told : Accepts (keeping fresh taking) j disk was → (stop : OpenFault) → OpenMayFail (keeping fresh taking) j stop was now disk after → stop ≡ fault.Memory
+  pub accepted_told : Accepts (keeping fresh taking) j disk was → (stop : OpenFault) → OpenMayFail (keeping fresh taking) j stop was now disk after
+      → stop ≡ fault.Memory
   accepted_told (inl unkept) stop may = absurd (false≢true (sym unkept))
   accepted_told (inr told) fault.Disk may = absurd (quiet may)
   accepted_told (inr told) fault.OldDisk may = absurd (old_quiet may.1)

@@ -1,14 +1,12 @@
 -- An empty file: it is refused as that, and stands for no job.
-use Rattle.std.proofs.Common.{◌≡◌, ◌≢◌, ℕ, ◌+◌, Bool, true, false, not, List, [], ◌∷◌, length, get_or, Option, Some, None, refl, sym, ap, subst, ◌∙◌, arith}
+use Rattle.std.proofs.Common.{◌≡◌, ℕ, Bool, true, false, List, [], ◌∷◌, length, get_or, Option, Some, None, refl, ap, arith}
 use Rattle.std.specs.Prelude.{◌==◌, if◌then◌else◌}
 use Rattle.std.proofs.lemmas.Bool.{ne_eqb}
-use Rattle.qh_plan.specs.declared.verdict.Verdict.{Verdict}
-use Rattle.qh_plan.specs.Jobs.{Job, IsJob, ranges}
-use Rattle.qh_slots.specs.Layout.{mark}
-use Rattle.qh_slots.specs.Stands.{Slots, slot_at, nones, Stands}
+use Rattle.qh_plan.specs.Jobs.{Job}
+use Rattle.qh_slots.specs.Stands.{Slots, nones, Stands}
 use Rattle.qh_slots.specs.Attaching.{first_refusal, head_refusal, or_bad, slots_of}
 use Rattle.qh_slots.specs.declared.fault.AttachFault.{AttachFault}
-use Rattle.qh_slots.specs.declared.fault.AttachFault.TheVariants.{Empty, Unbegun, OldJournal, NotAJournal, OtherJob, BadLength, BadSlot}
+use Rattle.qh_slots.specs.declared.fault.AttachFault.TheVariants.{Empty, Unbegun, OldJournal, NotAJournal, OtherJob, BadLength}
 use Rattle.qh_slots.proofs.StandLemmas.{closed}
 use Rattle.qh_parts.specs.Laying.{IsUnbegun}
 use Rattle.qh_parts.proofs.StepLemmas.{begun}

@@ -1,5 +1,5 @@
 -- What stays stable over the moments of a disk, and what is unwritten.
-use Rattle.std.proofs.Common.{◌≡◌, ◌<◌, ◌⊎◌, inl, inr, ℕ, ◌+◌, ◌≤◌, true, false, List, [], Option, Some, None, refl, sym, ap, subst, ◌∙◌, arith, get_or}
+use Rattle.std.proofs.Common.{◌≡◌, ◌⊎◌, inl, inr, ℕ, ◌≤◌, true, false, List, None, refl, sym, ap, subst, ◌∙◌, arith}
 use Rattle.std.specs.Prelude.{bytes_eq}
 use Rattle.std.proofs.lemmas.Bool.{cases_Bool}
 use Rattle.std.proofs.lemmas.List.{get_or_past}
@@ -10,11 +10,11 @@ use Rattle.qh_plan.specs.Jobs.{Job, IsJob, ranges}
 use Rattle.qh_plan.specs.Texts.{job_text}
 use Rattle.qh_plan.proofs.OneTextLemmas.{one_job}
 use Rattle.qh_disk.specs.Disk.{Face, IsImage}
-use Rattle.qh_disk.specs.Moments.{EachImage, EachImageAt, EachImageSince, Runs, Lasts}
+use Rattle.qh_disk.specs.Moments.{EachImageAt, EachImageSince, Runs, Lasts}
 use Rattle.qh_disk.specs.Looks.{Looks}
 use Rattle.qh_disk.proofs.Moments.{le_cases, since_new, each_since_same, each_since_on}
 use Rattle.qh_disk.proofs.Looking.{narrows_since, lasts_absurd}
-use Rattle.qh_slots.specs.Stands.{Slots, slot_at, Holds}
+use Rattle.qh_slots.specs.Stands.{slot_at, Holds}
 use Rattle.qh_slots.proofs.OwnerLemmas.{one_owner}
 use Rattle.qh_parts.specs.Laying.{IsUnbegun}
 use Rattle.qh_parts.specs.Sparing.{Spares}
@@ -40,7 +40,8 @@ stays_lasts i old new stays r v = record { each = λ t s low le most here. stays
 pub lasts_stays : (i : Job) (t : ℕ) (old new : Face) → old.clock ≤ t → ((r : ℕ) (v : Verdict) → Lasts (Holds i r v) old new) → StaysStable i t new
 lasts_stays i t old new from lasts r v before now low le most here = (lasts r v).each before now (omega arith) le most here
 
-pub stays_on : (i : Job) (t : ℕ) (mid new : Face) → Runs mid new → StaysStable i t mid → ((r : ℕ) (v : Verdict) → Lasts (Holds i r v) mid new) → StaysStable i t new
+pub stays_on : (i : Job) (t : ℕ) (mid new : Face) → Runs mid new → StaysStable i t mid → ((r : ℕ) (v : Verdict) → Lasts (Holds i r v) mid new)
+    → StaysStable i t new
 stays_on i t mid new runs stays lasts r v before now low le most here = elim (le_cases before mid.clock) [
   | inr later ↦ (lasts r v).each before now (omega arith) le most here
   | inl early ↦
@@ -48,13 +49,15 @@ stays_on i t mid new runs stays lasts r v before now low le most here = elim (le
       elim (le_cases now mid.clock) [
         | inl soon ↦ λ c is. stays r v before now low le soon in_mid c (runs.past now c soon is)
         | inr late ↦
-            let at_mid : EachImageAt mid.clock new (Holds i r v) = λ d was. stays r v before mid.clock low early (omega arith) in_mid d (runs.past mid.clock d (omega arith) was) in
+            let at_mid : EachImageAt mid.clock new (Holds i r v) = λ d was. stays r v before mid.clock low early (omega arith) in_mid d
+            (runs.past mid.clock d (omega arith) was) in
             (lasts r v).each mid.clock now (omega arith) (omega arith) most at_mid
       ]
 ]
 
 -- from a moment at which the empty file is the only image
-pub stays_new : (j : Job) (t : ℕ) (mid new : Face) → Runs mid new → (IsEmptyAt t mid → StaysStable j t mid) → ((r : ℕ) (v : Verdict) → Lasts (Holds j r v) mid new) → IsEmptyAt t new → StaysStable j t new
+pub stays_new : (j : Job) (t : ℕ) (mid new : Face) → Runs mid new → (IsEmptyAt t mid → StaysStable j t mid) →
+    ((r : ℕ) (v : Verdict) → Lasts (Holds j r v) mid new) → IsEmptyAt t new → StaysStable j t new
 stays_new j t mid new runs stays lasts empty = elim (le_cases t mid.clock) [
   | inl early ↦ stays_on j t mid new runs (stays (λ c was. empty c (runs.kept t c early was))) lasts
   | inr late ↦ lasts_stays j t mid new (omega arith) lasts
@@ -71,7 +74,8 @@ either_job i j is_i is_j = elim (cases_Bool (bytes_eq (job_text i) (job_text j))
     apart f t = cc
 
 -- where each image is not begun or stands for the job
-pub every_stable : (j : Job) → IsJob j → (old new : Face) → Spares j old new → EachImageSince old.clock new (λ c. IsUnbegun c ⊎ StandsFor j c) → (i : Job) → IsJob i → (r : ℕ) (v : Verdict) → Lasts (Holds i r v) old new
+pub every_stable : (j : Job) → IsJob j → (old new : Face) → Spares j old new → EachImageSince old.clock new (λ c. IsUnbegun c ⊎ StandsFor j c) → (i : Job)
+    → IsJob i → (r : ℕ) (v : Verdict) → Lasts (Holds i r v) old new
 every_stable j is_j old new spares since i is_i r v = elim (either_job i j is_i is_j) [
   | inl same ↦ subst (λ (k : Job). Lasts (Holds k r v) old new) (sym same) (spares.stable r v)
   | inr other ↦ lasts_absurd (Holds i r v) (λ c. IsUnbegun c ⊎ StandsFor j c) old new since

@@ -1,5 +1,5 @@
 -- What holds of what an option has.
-use Rattle.std.proofs.Common.{◌≡◌, ◌⊎◌, inl, inr, true, false, List, ℕ, Option, Some, None, refl, sym, subst, ◌∙◌}
+use Rattle.std.proofs.Common.{◌≡◌, true, List, ℕ, Option, Some, None, refl, subst, ◌∙◌}
 use Rattle.std.specs.Prelude.{IfSome, IsSomeAnd, is_some, option_map, option_and_then}
 
 pub some_from : {T : Type 0} (o : Option T) (P : T → Type 0) → ((x : T) → o ≡ Some x → P x) → IfSome o P

@@ -1,5 +1,5 @@
 -- How a run's journal is opened, why it is not, and what may follow on it.
-use Rattle.std.specs.Prelude.{◌≡◌, ◌⊎◌, ◌≤◌, ℕ, Bool, true, false, List, ⊤, IfSome, IsSomeAnd, is_some, Option}
+use Rattle.std.specs.Prelude.{◌≡◌, ◌⊎◌, ℕ, Bool, true, false, List, ⊤, IfSome, IsSomeAnd, is_some}
 use Rattle.qh_counts.specs.Counts.{Rose}
 use Rattle.qh_plan.specs.Jobs.{Job, IsJob}
 use Rattle.qh_disk.specs.Disk.{Face, IsSafe, Reads}
@@ -19,8 +19,8 @@ use Rattle.qh_open.specs.declared.fault.OpenFault.TheVariants as fault
 abbrev pub keeping : Bool → Bool → Keeping
 keeping fresh taking = record { kept = true; fresh = fresh; taking = taking }
 
--- A journal that is open: its disk is safe and reads as this table of slots, with which the run begins; each image was made by runs of the job where the
--- journal was emptied and an old one, if it was taken over, was made so; and no disk tells of a refusal.
+-- A journal that is open: its disk is safe and reads as this table of slots, with which the run begins. No disk tells of a refusal. Where it was emptied first,
+-- each image was made by runs of the job, if an old journal that was taken over was.
 pub record Opened (k : Keeping) (j : Job) (old disk after : Face) (table : Slots) : Type 0 where
   pub valid : IsJob j
   pub keeps : KeepsJournal k j old disk after
@@ -31,7 +31,7 @@ pub record Opened (k : Keeping) (j : Job) (old disk after : Face) (table : Slots
   pub accepted : (r : AttachFault) → RefusesJournal (λ known P. IsSomeAnd known P) k j disk r → ⊥
   pub old_accepted : (r : AttachFault) → RefusesOld (λ known P. IsSomeAnd known P) k j disk old r → ⊥
 
--- Some calls of an open journal with this table: stores of range values alone, which may fail, and no store where each range has a slot.
+-- Some calls of an open journal with this table: stores of range values alone, some of which may fail, and no writing where each range has a slot.
 pub record Continues (j : Job) (table : Slots) (old new : Face) : Type 0 where
   pub spares : Spares j old new
   pub made : Lasts (Made j) old new

@@ -6,6 +6,8 @@
 
 mod fault;
 mod opening;
+#[cfg(test)]
+mod tests;
 
 pub use fault::OpenFault;
 pub use opening::open_journal;

@@ -29,7 +29,8 @@ fn take_over<D: Disk, F: Disk>(
     ensures job { IfOk result (λ k. (k.job ≡ arc_value job.now) × (k.failed ≡ false)) }
     ensures opened { IfOk result (λ k. IsSomeAnd k.disk (Opens D.face D.loans (keeping false true) (arc_value job.now) (F.face old.old) disk k.table)) }
     ensures back { IfErr result (λ u. HandsBack D.face D.loans (keeping false true) (arc_value job.now) (F.face old.old) disk u.disk) }
-    ensures fault { IfErr result (λ u. OpenMayFail (keeping false true) (arc_value job.now) u.fault (F.face old.old) (F.face old.new) (D.face disk) (D.face u.disk)) }
+    ensures fault { IfErr result (λ u. OpenMayFail (keeping false true) (arc_value job.now) u.fault
+        (F.face old.old) (F.face old.new) (D.face disk) (D.face u.disk)) }
     ensures reading { IsReadOnly (F.face old.old) (F.face old.new) }
     ensures old_runs { Runs (F.face old.old) (F.face old.new) }
     ensures old_same { F.loans old.new ≡ F.loans old.old }
@@ -63,7 +64,8 @@ fn open_empty<D: Disk, F: Disk>(
     ensures job { IfOk result (λ k. (k.job ≡ arc_value job.now) × (k.failed ≡ false)) }
     ensures opened { IfOk result (λ k. IsSomeAnd k.disk (Opens D.face D.loans (keeping false taking) (arc_value job.now) (F.face old.old) disk k.table)) }
     ensures back { IfErr result (λ u. HandsBack D.face D.loans (keeping false taking) (arc_value job.now) (F.face old.old) disk u.disk) }
-    ensures fault { IfErr result (λ u. OpenMayFail (keeping false taking) (arc_value job.now) u.fault (F.face old.old) (F.face old.new) (D.face disk) (D.face u.disk)) }
+    ensures fault { IfErr result (λ u. OpenMayFail (keeping false taking) (arc_value job.now) u.fault
+        (F.face old.old) (F.face old.new) (D.face disk) (D.face u.disk)) }
     ensures reading { IsReadOnly (F.face old.old) (F.face old.new) }
     ensures old_runs { Runs (F.face old.old) (F.face old.new) }
     ensures old_same { F.loans old.new ≡ F.loans old.old }
@@ -92,7 +94,8 @@ fn open_kept<D: Disk, F: Disk>(
     ensures job { IfOk result (λ k. (k.job ≡ arc_value job.now) × (k.failed ≡ false)) }
     ensures opened { IfOk result (λ k. IsSomeAnd k.disk (Opens D.face D.loans (keeping false taking) (arc_value job.now) (F.face old.old) disk k.table)) }
     ensures back { IfErr result (λ u. HandsBack D.face D.loans (keeping false taking) (arc_value job.now) (F.face old.old) disk u.disk) }
-    ensures fault { IfErr result (λ u. OpenMayFail (keeping false taking) (arc_value job.now) u.fault (F.face old.old) (F.face old.new) (D.face disk) (D.face u.disk)) }
+    ensures fault { IfErr result (λ u. OpenMayFail (keeping false taking) (arc_value job.now) u.fault
+        (F.face old.old) (F.face old.new) (D.face disk) (D.face u.disk)) }
     ensures reading { IsReadOnly (F.face old.old) (F.face old.new) }
     ensures old_runs { Runs (F.face old.old) (F.face old.new) }
     ensures old_same { F.loans old.new ≡ F.loans old.old }
@@ -123,7 +126,8 @@ fn open_fresh<D: Disk, F: Disk>(
     ensures job { IfOk result (λ k. (k.job ≡ arc_value job.now) × (k.failed ≡ false)) }
     ensures opened { IfOk result (λ k. IsSomeAnd k.disk (Opens D.face D.loans (keeping true taking) (arc_value job.now) (F.face old.old) disk k.table)) }
     ensures back { IfErr result (λ u. HandsBack D.face D.loans (keeping true taking) (arc_value job.now) (F.face old.old) disk u.disk) }
-    ensures fault { IfErr result (λ u. OpenMayFail (keeping true taking) (arc_value job.now) u.fault (F.face old.old) (F.face old.new) (D.face disk) (D.face u.disk)) }
+    ensures fault { IfErr result (λ u. OpenMayFail (keeping true taking) (arc_value job.now) u.fault
+        (F.face old.old) (F.face old.new) (D.face disk) (D.face u.disk)) }
     ensures reading { IsReadOnly (F.face old.old) (F.face old.new) }
     ensures old_runs { Runs (F.face old.old) (F.face old.new) }
     ensures old_same { F.loans old.new ≡ F.loans old.old }
@@ -152,7 +156,8 @@ pub fn open_journal<D: Disk, F: Disk>(
     ensures opened { IfOk result (λ k. IsSomeAnd k.disk (Opens D.face D.loans (keeping fresh taking) (arc_value job.now) (F.face old.old) disk k.table)) }
 
     ensures back { IfErr result (λ u. HandsBack D.face D.loans (keeping fresh taking) (arc_value job.now) (F.face old.old) disk u.disk) }
-    ensures fault { IfErr result (λ u. OpenMayFail (keeping fresh taking) (arc_value job.now) u.fault (F.face old.old) (F.face old.new) (D.face disk) (D.face u.disk)) }
+    ensures fault { IfErr result (λ u. OpenMayFail (keeping fresh taking) (arc_value job.now) u.fault
+        (F.face old.old) (F.face old.new) (D.face disk) (D.face u.disk)) }
 
     ensures reading { IsReadOnly (F.face old.old) (F.face old.new) }
     ensures old_runs { Runs (F.face old.old) (F.face old.new) }
