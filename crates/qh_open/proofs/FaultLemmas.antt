@@ -1,11 +1,10 @@
 -- Why an opening stops, from why its calls stop.
-use Rattle.std.proofs.Common.{◌≡◌, ◌≢◌, ◌⊎◌, inl, inr, ℕ, Bool, true, false, List, [], Option, Some, refl, sym, subst, ◌∙◌, arith}
-use Rattle.std.proofs.lemmas.Bool.{false≢true}
-use Rattle.std.specs.Prelude.{IfSome, IsSomeAnd, is_some}
+use Rattle.std.proofs.Common.{◌≡◌, ◌≢◌, inl, inr, ℕ, Bool, true, false, List, [], Option, Some, None, refl, sym, subst, ◌∙◌, arith}
+use Rattle.std.specs.Prelude.{IfSome, IsSomeAnd}
 use Rattle.qh_counts.proofs.Chains.{rose_before}
 use Rattle.qh_plan.specs.Jobs.{Job, IsJob}
-use Rattle.qh_disk.specs.Disk.{Face, Reads}
-use Rattle.qh_disk.specs.Moments.{Runs}
+use Rattle.qh_disk.specs.Disk.{Face, IsSafe, Reads}
+use Rattle.qh_disk.specs.Moments.{Runs, Lasts}
 use Rattle.qh_disk.specs.Looks.{Looks}
 use Rattle.qh_slots.specs.Stands.{Slots, Stands}
 use Rattle.qh_slots.specs.Attaching.{first_refusal, first_refusal1}
@@ -15,8 +14,8 @@ use Rattle.qh_slots.proofs.StandLemmas.{none_refusal}
 use Rattle.qh_record.specs.Refusing.{IsRefusal, RefusesOld}
 use Rattle.qh_record.specs.Moments.{IsUnwritten, IsReadOnly}
 use Rattle.qh_parts.specs.Reading.{OnlyReads}
-use Rattle.qh_disk.proofs.Moments.{le_cases}
-use Rattle.qh_disk.proofs.Looking.{narrows_since}
+use Rattle.qh_disk.proofs.Moments.{le_cases, lasts_on, runs_on}
+use Rattle.qh_disk.proofs.Looking.{narrows_lasts, narrows_since}
 use Rattle.qh_journal.specs.Calls.{AttachMayFail, IsRefused}
 use Rattle.qh_migrate.specs.Faults.{attach_of}
 use Rattle.qh_migrate.specs.Moving.{MigrateMayFail}
@@ -28,8 +27,8 @@ use Rattle.qh_open.specs.declared.fault.OpenFault.{OpenFault}
 use Rattle.qh_open.specs.declared.fault.OpenFault.TheVariants as fault
 use Rattle.qh_open.specs.Opening.{OpenMayFail, keeping}
 use Rattle.qh_open.specs.Stops.{attach_stop, migrate_stop}
-use Rattle.qh_open.proofs.OptionLemmas.{some_from, nothing, is_some_has, same_told}
-use Rattle.qh_open.proofs.MomentLemmas.{unwritten_same, unwritten_looks, unwritten_on}
+use Rattle.qh_open.proofs.OptionLemmas.{some_from, nothing, same_told}
+use Rattle.qh_open.proofs.MomentLemmas.{untold_unwritten, unwritten_same, unwritten_looks, unwritten_on}
 use Rattle.qh_open.proofs.FillLemmas.{stood_accepted}
 
 -- ---- a disk that was only read
@@ -57,7 +56,7 @@ stops_refused taking j was now disk after why other is looks refused = (
     empty = λ e. absurd (other e);
     first = some_from disk.content (λ f. (first_refusal j f ≡ Some why) × (why ≢ Empty)) (λ f told. (refused.first f (looks.content ∙ told), other));
   },
-  λ fresh told. unwritten_looks disk after looks,
+  λ fresh. unwritten_looks disk after looks,
 )
 
 pub attach_stops : (taking : Bool) (j : Job) (was now disk after : Face) (why : AttachFault) → (why ≢ Empty) → Looks disk after
@@ -74,11 +73,16 @@ attach_stops taking j was now disk after (BadSlot k) other looks may = stops_ref
 
 -- ---- an attach of what was taken over: it stands, where that is told
 module _ (j : Job) (is_j : IsJob j) (was now disk mid after : Face) (slots : Slots) (runs : Runs disk mid) (looks : Looks mid after)
-    (stands : Reads mid (Stands j slots)) where
+    (stands : Reads mid (Stands j slots)) (safe : IsSafe disk) (none : Lasts (λ _. ⊥) disk mid) where
   never_told : (why : AttachFault) → IsRefused j why after → (f : List ℕ) → disk.content ≡ Some f → ⊥
   never_told why refused f told =
       let here = same_told disk.content mid.content f runs.told told in
       nothing why (sym (none_refusal j is_j slots here.value (stands here.value here.is)) ∙ refused.first here.value (looks.content ∙ here.is))
+
+  taken_unwritten : (x : Option (List ℕ)) → disk.content ≡ x → (why : AttachFault) → IsRefused j why after → IsUnwritten disk after
+  taken_unwritten None is why refused = untold_unwritten disk after (runs_on disk mid after runs looks.runs) safe
+      (lasts_on (λ _. ⊥) disk mid after none looks.runs (narrows_lasts (λ _. ⊥) mid after looks.narrows)) is
+  taken_unwritten (Some f) is why refused = absurd (never_told why refused f is)
 
   taken_refused : (why : AttachFault) → IsRefusal why → IsRefused j why after → OpenMayFail (keeping false true) j (fault.Refused why) was now disk after
   taken_refused why is refused = (
@@ -87,10 +91,7 @@ module _ (j : Job) (is_j : IsJob j) (was now disk mid after : Face) (slots : Slo
       empty = λ e. refl;
       first = some_from disk.content (λ f. (first_refusal j f ≡ Some why) × (why ≢ Empty)) (λ f told. absurd (never_told why refused f told));
     },
-    λ fresh either. elim either [
-      | inl not_taking ↦ absurd (false≢true (sym not_taking))
-      | inr told ↦ let has = is_some_has disk.content told in absurd (never_told why refused has.value has.is)
-    ],
+    λ fresh. taken_unwritten disk.content refl why refused,
   )
 
   pub taken_stops : (why : AttachFault) → AttachMayFail j why mid after → OpenMayFail (keeping false true) j (attach_stop why) was now disk after
@@ -140,8 +141,7 @@ looks_stops taking j was now disk mid after (fault.Refused why) looks runs may =
     empty = may.0.empty;
     first = subst (λ (x : Option (List ℕ)). IfSome x (λ f. (first_refusal j f ≡ Some why) × (why ≢ Empty))) looks.content may.0.first;
   },
-  λ fresh either. unwritten_on disk mid after looks.runs (unwritten_looks disk mid looks) runs
-      (may.1 fresh (subst (λ (x : Option (List ℕ)). (taking ≡ false) ⊎ (is_some x ≡ true)) (sym looks.content) either)),
+  λ fresh. unwritten_on disk mid after looks.runs (unwritten_looks disk mid looks) runs (may.1 fresh),
 )
 looks_stops taking j was now disk mid after (fault.OldRefused why) looks runs may = (
   record {

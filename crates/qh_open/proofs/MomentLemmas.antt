@@ -1,6 +1,6 @@
 -- What stays stable over the moments of a disk, and what is unwritten.
-use Rattle.std.proofs.Common.{◌≡◌, ◌⊎◌, inl, inr, ℕ, ◌≤◌, true, false, List, None, refl, sym, ap, subst, ◌∙◌, arith}
-use Rattle.std.specs.Prelude.{bytes_eq}
+use Rattle.std.proofs.Common.{◌≡◌, ◌⊎◌, inl, inr, ℕ, ◌≤◌, true, false, List, Option, Some, None, refl, sym, ap, subst, ◌∙◌, arith}
+use Rattle.std.specs.Prelude.{bytes_eq, is_some}
 use Rattle.std.proofs.lemmas.Bool.{cases_Bool}
 use Rattle.std.proofs.lemmas.List.{get_or_past}
 use Rattle.std.proofs.lemmas.Slice.Eq.{bytes_eq-Decides}
@@ -9,16 +9,17 @@ use Rattle.qh_plan.specs.declared.verdict.Verdict.TheVariants.{Over}
 use Rattle.qh_plan.specs.Jobs.{Job, IsJob, ranges}
 use Rattle.qh_plan.specs.Texts.{job_text}
 use Rattle.qh_plan.proofs.OneTextLemmas.{one_job}
-use Rattle.qh_disk.specs.Disk.{Face, IsImage}
+use Rattle.qh_disk.specs.Disk.{Face, IsImage, IsSafe}
 use Rattle.qh_disk.specs.Moments.{EachImageAt, EachImageSince, Runs, Lasts}
 use Rattle.qh_disk.specs.Looks.{Looks}
-use Rattle.qh_disk.proofs.Moments.{le_cases, since_new, each_since_same, each_since_on}
+use Rattle.qh_disk.proofs.Moments.{le_cases, lasts_since, since_new, each_since_same, each_since_on}
 use Rattle.qh_disk.proofs.Looking.{narrows_since, lasts_absurd}
 use Rattle.qh_slots.specs.Stands.{slot_at, Holds}
 use Rattle.qh_slots.proofs.OwnerLemmas.{one_owner}
 use Rattle.qh_parts.specs.Laying.{IsUnbegun}
 use Rattle.qh_parts.specs.Sparing.{Spares}
 use Rattle.qh_parts.proofs.StepLemmas.{begun}
+use Rattle.qh_open.proofs.OptionLemmas.{nothing}
 use Rattle.qh_record.specs.Moments.{StandsFor, StaysStable, IsEmptyAt, IsUnwritten}
 
 -- ---- no images: the job has no slot past its ranges, which none can hold
@@ -91,6 +92,18 @@ unwritten_same d = record { content = refl; images = each_since_same (IsImage d)
 
 pub unwritten_looks : (old new : Face) → Looks old new → IsUnwritten old new
 unwritten_looks old new looks = record { content = looks.content; images = narrows_since old new looks.runs looks.narrows }
+
+-- a safe disk that does not tell what it reads as has no images, and none comes
+none_same : (o p : Option (List ℕ)) → is_some p ≡ is_some o → o ≡ None → p ≡ o
+none_same None None same is = refl
+none_same None (Some g) same is = absurd cc
+none_same (Some f) p same is = absurd cc
+
+pub untold_unwritten : (old new : Face) → Runs old new → IsSafe old → Lasts (λ _. ⊥) old new → old.content ≡ None → IsUnwritten old new
+untold_unwritten old new runs safe none untold = record {
+  content = none_same old.content new.content runs.told untold;
+  images = λ c is. absurd (lasts_since (λ _. ⊥) old new runs none (λ d at. nothing d (sym untold ∙ safe d at)) c is);
+}
 
 pub unwritten_on : (old mid new : Face) → Runs old mid → IsUnwritten old mid → Runs mid new → IsUnwritten mid new → IsUnwritten old new
 unwritten_on old mid new first a then b = record {

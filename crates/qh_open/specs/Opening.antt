@@ -1,5 +1,5 @@
 -- How a run's journal is opened, why it is not, and what may follow on it.
-use Rattle.std.specs.Prelude.{◌≡◌, ◌⊎◌, ℕ, Bool, true, false, List, ⊤, IfSome, IsSomeAnd, is_some}
+use Rattle.std.specs.Prelude.{◌≡◌, ℕ, Bool, true, false, List, ⊤, IfSome, IsSomeAnd}
 use Rattle.qh_counts.specs.Counts.{Rose}
 use Rattle.qh_plan.specs.Jobs.{Job, IsJob}
 use Rattle.qh_disk.specs.Disk.{Face, IsSafe, Reads}
@@ -49,13 +49,12 @@ pub record HandsBack {D : Type 0} (face : D → Face) (loans : D → List ℕ) (
   pub same : loans e ≡ loans d
   pub keeps : KeepsJournal k j old (face d) (face e)
 
--- Why it is not opened; `old` and `was` are the old disk before and after. A journal that is refused is not written, but for one that does not tell what it
--- reads as and is refused after it took over the old one.
+-- Why it is not opened; `old` and `was` are the old disk before and after. A journal that is refused is not written, unless it was to be emptied.
 abbrev pub OpenMayFail : Keeping → Job → OpenFault → Face → Face → Face → Face → Type 0
 OpenMayFail k j fault.Disk old was disk after = Rose disk.faults after.faults
 OpenMayFail k j fault.OldDisk old was disk after = (k.taking ≡ true) × Rose old.faults was.faults
 OpenMayFail k j (fault.Refused why) old was disk after =
-    RefusesJournal (λ known P. IfSome known P) k j disk why × (k.fresh ≡ false → (k.taking ≡ false) ⊎ (is_some disk.content ≡ true) → IsUnwritten disk after)
+    RefusesJournal (λ known P. IfSome known P) k j disk why × (k.fresh ≡ false → IsUnwritten disk after)
 OpenMayFail k j (fault.OldRefused why) old was disk after =
     RefusesOld (λ known P. IfSome known P) k j disk old (attach_of why) × (k.fresh ≡ false → IsUnwritten disk after)
 OpenMayFail k j fault.Memory old was disk after = ⊤

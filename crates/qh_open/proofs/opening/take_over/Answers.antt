@@ -76,4 +76,5 @@ returns-in-Err-attach-clause-fault g c =
     (g.F.Disk.face c.migrate.new.old) (g.D.Disk.face c.args.disk) (g.D.Disk.face c.in-Err-attach.field-0.disk)) (sym c.attach_fault.ensures)
     (taken_stops (arc_value c.args.job.now) c.requires.valid (g.F.Disk.face c.args.old.now) (g.F.Disk.face c.migrate.new.old) (g.D.Disk.face c.args.disk)
     (g.D.Disk.face c.migrate.new.new) (g.D.Disk.face c.in-Err-attach.field-0.disk)
-    c.in_default.ensures.moved.slots c.migrate.ensures.leaves.spares.runs c.in-Err-attach.ensures.back.looks c.in_default.ensures.moved.reads c.in-Err-attach.field-0.fault c.in-Err-attach.ensures.fault)
+    c.in_default.ensures.moved.slots c.migrate.ensures.leaves.spares.runs c.in-Err-attach.ensures.back.looks c.in_default.ensures.moved.reads c.requires.safe
+    c.migrate.ensures.leaves.spares.none c.in-Err-attach.field-0.fault c.in-Err-attach.ensures.fault)
