@@ -138,7 +138,7 @@ one_text i j f si sj bi bj =
     let hi = head_size i in
     let hj = head_size j in
     let same : length (job_text i) ≡ length (job_text j) = one_path (length (job_text i)) (length (job_text j)) si sj
-            (sym (head_count i) ∙ ap (part 8 8) (sym bi) ∙ part_taken 8 8 (length (head i)) f (omega arith) ∙ sym (part_taken 8 8 (length (head j)) f (omega arith)) ∙ ap (part 8 8) bj ∙ head_count j) in
+    (sym (head_count i) ∙ ap (part 8 8) (sym bi) ∙ part_taken 8 8 (length (head i)) f (omega arith) ∙ sym (part_taken 8 8 (length (head j)) f (omega arith)) ∙ ap (part 8 8) bj ∙ head_count j) in
     let long : length (head i) ≡ length (head j) = omega arith in
     sym (head_text i) ∙ ap (drop 32) (sym bi ∙ ap (λ (n : ℕ). take n f) long ∙ bj) ∙ head_text j
 
