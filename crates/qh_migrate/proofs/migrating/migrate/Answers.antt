@@ -69,7 +69,8 @@ returns-clause-fault g c = (
   c.in-Err-fill.ensures.rose,
   record {
     slots = c.in-Ok-look_through.table.items;
-    stood = subst (λ (j : Job). Reads (g.F.Disk.face c.args.old.now) (Stands1 j c.in-Ok-look_through.table.items)) c.deref-4.ensures c.in-Ok-look_through.ensures.slots;
+    stood = subst (λ (j : Job). Reads (g.F.Disk.face c.args.old.now)
+        (Stands1 j c.in-Ok-look_through.table.items)) c.deref-4.ensures c.in-Ok-look_through.ensures.slots;
   },
 )
 
