@@ -1,0 +1,1 @@
+//! Fake desks and gates.
