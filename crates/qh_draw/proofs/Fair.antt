@@ -1,14 +1,15 @@
 -- A draw and a look keep the rule.
-use Rattle.std.proofs.Common.{◌≡◌, ◌≢◌, ◌+◌, ◌-◌, ◌%◌, ◌^◌, ◌<◌, ◌≤◌, ◌==◌, ℕ, zero, suc, List, [], ◌∷◌, ◌++◌, All, set, sym, refl, ap, subst, arith, slice_index, slice_set}
+use Rattle.std.proofs.Common.{◌≡◌, ◌+◌, ◌-◌, ◌%◌, ◌^◌, ◌<◌, ◌≤◌, ◌==◌, ℕ, zero, suc, List, [], ◌∷◌, ◌++◌, All, set, slice_index, slice_set}
+use Rattle.std.proofs.Common.{sym, refl, ap, subst, arith}
 use Rattle.std.specs.Prelude.{if◌then◌else◌}
 use Rattle.std.specs.List.{sum_by}
 use Rattle.std.proofs.lemmas.List.Sums.{sum_by-append, sum_by-cons}
 use Rattle.std.proofs.lemmas.Bool.Decides.{nat_tests}
 use Rattle.std.proofs.lemmas.List.Elements.{All-cons}
-use mathlib.Core.Option.{Option, some, some-injective, some-ne-none}
+use mathlib.Core.Option.{some, some-injective, some-ne-none}
 use lib.ListN.{get_elem?}
-use Rattle.atomic_table.specs.Table.{Act, Allows, Joins, Splits, Valid, carried_after, keeps}
-use Rattle.atomic_table.proofs.Lists.{at_set, set_again, set_else}
+use Rattle.atomic_table.specs.Table.{State, Act, Allows, Joins, Splits, Valid, carried_after, keeps}
+use Rattle.atomic_table.proofs.Lists.{set_again}
 use Rattle.qh_draw.specs.Rule.{Drew, IsFair, IsFairAt, Looked, dealt, joined, once_below, one_share, rights, spent, times}
 use Rattle.qh_draw.specs.declared.rule.Rights.{Rights}
 
@@ -20,6 +21,19 @@ total_set f (x ∷ xs) zero v w at =
     let e : x ≡ v = some-injective x v at in omega (arith, ap f e, sum_by-cons f x xs, sum_by-cons f w xs)
 total_set f (x ∷ xs) (suc i) v w at =
     omega (arith, total_set f xs i v w at, sum_by-cons f x xs, sum_by-cons f x (set xs i w))
+
+-- the total with one view more
+total_more : (f : Rights → ℕ) (views : List Rights) (w : Rights) → sum_by f (views ++ w ∷ []) ≡ sum_by f views + f w
+total_more f views w = omega (arith, sum_by-append f views (w ∷ []), sum_by-cons f w [])
+
+-- the total after a view was cut in two, and after a view took in another
+total_split : (f : Rights → ℕ) (views : List Rights) (i : ℕ) (v left right : Rights) → get_elem? views i ≡ some v
+    → sum_by f (set views i left ++ right ∷ []) + f v ≡ sum_by f views + f left + f right
+total_split f views i v left right at = omega (arith, total_set f views i v left at, total_more f (set views i left) right)
+
+total_join : (f : Rights → ℕ) (views : List Rights) (i j : ℕ) (v w both gone : Rights) → get_elem? views i ≡ some v → get_elem? (set views i both) j ≡ some w
+    → sum_by f (set (set views i both) j gone) + f v + f w ≡ sum_by f views + f both + f gone
+total_join f views i j v w both gone at there = omega (arith, total_set f views i v both at, total_set f (set views i both) j w gone there)
 
 part : (f : Rights → ℕ) (views : List Rights) (i : ℕ) (v : Rights) → get_elem? views i ≡ some v → f v ≤ sum_by f views
 part f [] i v at = absurd (some-ne-none v (sym at))
@@ -64,14 +78,19 @@ fair_after total n views i v some_left fair at =
       )),
     )
 
+-- the rule as a fact about the table
+abbrev holds : ℕ → State (Unit {0}) Rights → Type 0
+holds total s = IsFair total s.words s.views
+
 pub draws : (total slots id : ℕ) (me : Rights × List (ℕ × Unit {0})) → 0 < me.0.left
-    → Allows {S = Unit {0}} {V = Rights} (λ s. IsFair total s.words s.views) slots id me 0 (λ n. (n + 1) % 2 ^ 64) (λ n after. Drew me.0 n after.0 × (me.1 ≡ after.1))
+    → Allows (holds total) slots id me 0 (λ n. (n + 1) % 2 ^ 64) (λ n after. Drew me.0 n after.0 × (me.1 ≡ after.1))
 draws total slots id me some_left s fair homes at word =
     let n = fair.0 in
     let w = rights me.0.each (me.0.left - 1) (me.0.drawn ++ n ∷ []) in
     let room : (n + 1) % 2 ^ 64 ≡ n + 1 = omega (arith, fair.2.0, fair.2.1) in
     let P : List ℕ → Type 0 = λ ws. (w : Rights) × (a : Act (Unit {0})) × Valid s.homes me.1 a
-    × IsFair total (slice_set ws 0 ((slice_index ws 0 + 1) % 2 ^ 64)) (slice_set s.views id w) × (Drew me.0 (slice_index ws 0) w × (me.1 ≡ carried_after me.1 a)) in
+    × IsFair total (slice_set ws 0 ((slice_index ws 0 + 1) % 2 ^ 64)) (slice_set s.views id w)
+    × (Drew me.0 (slice_index ws 0) w × (me.1 ≡ carried_after me.1 a)) in
     subst P (sym fair.1) (
       w,
       keeps,
@@ -81,7 +100,7 @@ draws total slots id me some_left s fair homes at word =
     )
 
 pub looks : (total slots id : ℕ) (me : Rights × List (ℕ × Unit {0}))
-    → Allows {S = Unit {0}} {V = Rights} (λ s. IsFair total s.words s.views) slots id me 0 (λ n. n) (λ n after. Looked me.0 n after.0 × (me.1 ≡ after.1))
+    → Allows (holds total) slots id me 0 (λ n. n) (λ n after. Looked me.0 n after.0 × (me.1 ≡ after.1))
 looks total slots id me s fair homes at word =
     let n = fair.0 in
     let P : List ℕ → Type 0 = λ ws. (w : Rights) × (a : Act (Unit {0})) × Valid s.homes me.1 a
@@ -97,26 +116,31 @@ looks total slots id me s fair homes at word =
 pub opens : (total each : ℕ) → total < 2 ^ 63 → IsFair total (0 ∷ []) (rights each total [] ∷ [])
 opens total each small = (0, refl, (small, omega arith, λ x. grind (arith, nat_tests)))
 
-pub splits : (total id : ℕ) (v : Rights) → v.each ≤ v.left → Splits {S = Unit {0}} (λ s. IsFair total s.words s.views) id v (dealt v) (one_share v)
+pub splits : (total id : ℕ) (v : Rights) → v.each ≤ v.left → Splits (holds total) id v (dealt v) (one_share v)
 splits total id v enough s fair at =
     let n = fair.0 in (
       n,
       fair.1,
       (
         fair.2.0,
-        omega (arith, fair.2.1, total_set (λ u. u.left) s.views id v (dealt v) at, sum_by-append (λ (u : Rights). u.left) (set s.views id (dealt v)) (one_share v ∷ []), sum_by-cons (λ (u : Rights). u.left) (one_share v) []),
-        (λ x. omega (arith, fair.2.2 x, total_set (λ u. times x u.drawn) s.views id v (dealt v) at, sum_by-append (λ (u : Rights). times x u.drawn) (set s.views id (dealt v)) (one_share v ∷ []), sum_by-cons (λ (u : Rights). times x u.drawn) (one_share v) [])),
+        omega (arith, fair.2.1, total_split (λ u. u.left) s.views id v (dealt v) (one_share v) at),
+        (λ x. omega (arith, fair.2.2 x, total_split (λ u. times x u.drawn) s.views id v (dealt v) (one_share v) at)),
       ),
     )
 
-pub joins : (total id other : ℕ) (v w : Rights) → Joins {S = Unit {0}} (λ s. IsFair total s.words s.views) id v other w (joined v w) spent
+pub joins : (total id other : ℕ) (v w : Rights) → Joins (holds total) id v other w (joined v w) spent
 joins total id other v w s fair at apart there =
     let n = fair.0 in (
       n,
       fair.1,
       (
         fair.2.0,
-        omega (arith, fair.2.1, total_set (λ u. u.left) s.views id v (joined v w) at, total_set (λ u. u.left) (set s.views id (joined v w)) other w spent there),
-        (λ x. omega (arith, fair.2.2 x, total_set (λ u. times x u.drawn) s.views id v (joined v w) at, total_set (λ u. times x u.drawn) (set s.views id (joined v w)) other w spent there, sum_by-append (λ y. if y == x then 1 else 0) v.drawn w.drawn)),
+        omega (arith, fair.2.1, total_join (λ u. u.left) s.views id other v w (joined v w) spent at there),
+        (λ x. omega (
+          arith,
+          fair.2.2 x,
+          total_join (λ u. times x u.drawn) s.views id other v w (joined v w) spent at there,
+          sum_by-append (λ y. if y == x then 1 else 0) v.drawn w.drawn,
+        )),
       ),
     )

@@ -66,6 +66,12 @@ impl<N: Ledgers> Till<N> {
         })
     }
 
+    pub fn new_share(&mut self) -> Share<N>
+        requires { self.old.tally.out ≡ 0 }
+    {
+        self.tally.new_share()
+    }
+
     /// A ticket for the range, where there is such a range and the till still counts.
     fn grant(&mut self, range: u32, ranges: u32, share: &mut Share<N>) -> Option<Ticket>
         ensures ticket { IfSome result (λ t. t.range < ranges) }

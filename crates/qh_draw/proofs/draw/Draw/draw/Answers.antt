@@ -1,4 +1,4 @@
-use Rattle.std.proofs.Common.{ap, rules, ◌≡◌, sym, ◌∙◌, arith, ◌<◌, subst}
+use Rattle.std.proofs.Common.{ap, sym, ◌∙◌, arith}
 use Rattle.qh_draw.proofs.Fair.{draws}
 use Rattle.qh_draw.proofs.draw.Draw.draw.Goals as goal
 

@@ -8,7 +8,8 @@ pub loop-preserved : goal.loop-preserved
 loop-preserved c =
     let t = c.draw.inside.table.shared.table_id in
     let was = c.loop.invariant in
-    let p : c.deal.new.seat ≡ seat_of t c.args.each (c.loop.last.left - c.args.each) [] = gives t c.args.each c.loop.last c.deal.new.seat was.last c.deal.ensures.left in
+    let p : c.deal.new.seat ≡ seat_of t c.args.each (c.loop.last.left - c.args.each) [] =
+    gives t c.args.each c.loop.last c.deal.new.seat was.last c.deal.ensures.left in
     let left : c.deal.new.seat.left ≡ c.loop.last.left - c.args.each = ap (λ (s : Seat). s.left) p in
     let len : vec_len c.push.new.self ≡ vec_len c.loop.all + 1 = c.in_ok-push.ensures.len in
     record {
