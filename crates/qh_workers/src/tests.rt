@@ -95,7 +95,7 @@ fn last_seat(draw: &Draw, seats: &mut Vec<Seat>, each: u64) -> Option<Seat>
 
 /// What the tables compare: how a worker ended, what its share counts, and the calls that its desk saw.
 #[derive(Drop)]
-struct Worked {
+struct Outcome {
     ended: Ended,
     counts: Totals,
     calls: Vec<Call>,
@@ -110,7 +110,7 @@ fn work_at<R: Wait, N: Ledgers, W: WorkerGate, L: Ledger>(
     gate: &W,
     mut till: Till<N>,
     steps: &mut Steps<L>,
-) -> Result<Worked, Fail>
+) -> Result<Outcome, Fail>
     requires { till.tally.out ≡ 0 }
 {
     let mut share = till.new_share();
@@ -121,7 +121,7 @@ fn work_at<R: Wait, N: Ledgers, W: WorkerGate, L: Ledger>(
     let ended = work(
         rt, alloc, job, &desk, gate, cache, &draw, &mut seat, 3, &mut share, steps,
     );
-    Ok(Worked {
+    Ok(Outcome {
         ended,
         counts: share.counts(),
         calls: desk.into_calls(),
@@ -137,7 +137,7 @@ fn work_over<R, W, G, B, A, L>(
     admits: bool,
     answers: &[Answer],
     blanks: (Blank, Blank, Blank, Blank),
-) -> Result<Worked, Fail>
+) -> Result<Outcome, Fail>
 where
     R: Wait,
     W: WorkerGate,
@@ -165,7 +165,7 @@ fn worked<R: Wait, W: WorkerGate>(
     gate: &W,
     admits: bool,
     answers: &[Answer],
-) -> Result<Worked, Fail> {
+) -> Result<Outcome, Fail> {
     let blanks = (
         Blank::new(LEDGER_PARTS),
         Blank::new(LEDGER_PARTS),
