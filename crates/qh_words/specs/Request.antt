@@ -1,5 +1,5 @@
 -- What the words ask for, option by option.
-use Rattle.std.specs.Prelude.{ℕ, ◌+◌, ◌&&◌, ◌||◌, Bool, true, not, List, Option, Some, None, is_some, codes, option_map, option_and_then, if◌then◌else◌}
+use Rattle.std.specs.Prelude.{ℕ, ◌+◌, ◌&&◌, ◌||◌, Bool, true, false, not, List, Option, Some, None, is_some, codes, option_map, option_and_then, if◌then◌else◌}
 use Rattle.std.specs.Option.{option_map_or}
 use Rattle.qh_decimal.specs.Decimal.{number_below, value_of}
 use Rattle.qh_limits.specs.Limits.{max_crossing}
@@ -50,6 +50,9 @@ asked value = record {
   r = number_or 0 (value (codes "r"));
   w = option_map value_of (value (codes "w"));
   generated = option_and_then size_of (value (codes "g"));
+  journal = None;
+  fresh = false;
+  from = None;
 }
 
 abbrev pub options_by : Values → Option Options

@@ -1,6 +1,6 @@
 //! From words to options.
 
-ghost use Rattle.std.specs.Prelude.{◌≡◌, ◌∷◌, IfOk, IfSome, IsTrue, codes, map, option_and_then, string_bytes};
+ghost use Rattle.std.specs.Prelude.{◌≡◌, ◌∷◌, IfOk, IfSome, IsTrue, false, None, codes, map, option_and_then, string_bytes};
 ghost use Rattle.std.specs.Option.{SomeIff, option_copied};
 ghost use Rattle.qh_words.specs.Command.{program, value_in};
 ghost use Rattle.qh_words.specs.Request.{has_cut, has_source, options_by, options_of};
@@ -114,6 +114,9 @@ fn with_texts(
       r = numbers.r;
       w = numbers.w;
       generated = generated;
+      journal = None;
+      fresh = false;
+      from = None;
     }) }
 {
     Ok(Options {
@@ -126,6 +129,9 @@ fn with_texts(
         r: numbers.r,
         w: numbers.w,
         generated,
+        journal: None,
+        fresh: false,
+        from: None,
     })
 }
 
