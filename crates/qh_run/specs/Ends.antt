@@ -1,5 +1,5 @@
 -- How a run ends, and why.
-use Rattle.std.specs.Prelude.{◌≡◌, ◌⊎◌, false, true, All, IfSome, IsSome, IsSomeAnd, Option, Some, None}
+use Rattle.std.specs.Prelude.{◌≡◌, ◌⊎◌, false, true, All, length, IfSome, IsSome, IsSomeAnd, Option, Some, None}
 use Rattle.qh_limits.specs.Limits.{coefficient_bits}
 use Rattle.qh_counts.specs.Counts.{Rose}
 use Rattle.qh_ring.specs.Numbers.{IsWithin}
@@ -29,6 +29,15 @@ answer_of Memory = None
 abbrev pub IsBounded : Verdict → Type 0
 IsBounded (Sum sums) = All (IsWithin coefficient_bits) sums
 IsBounded (OverPath path) = Unit {0}
+
+-- an answer has a sum for each asked bitstring
+abbrev pub HasAll : Job → Verdict → Type 0
+HasAll j (Sum sums) = length sums ≡ length j.bits
+HasAll j (OverPath path) = Unit {0}
+
+-- no old journal that is to be taken over tells that it is refused
+abbrev pub AcceptsOld : Keeping → Job → Face → Face → Type 0
+AcceptsOld k j old disk = (r : AttachFault) → ¬ RefusesOld (λ known P. IsSomeAnd known P) k j disk old r
 
 -- no call of the disk failed, as far as its count tells
 abbrev pub IsFaultless : Face → Face → Type 0

@@ -8,7 +8,7 @@ ghost use Rattle.qh_disk.specs.Moments.{Runs};
 ghost use Rattle.qh_record.specs.Record.{slots_before, count_bare};
 ghost use Rattle.qh_record.specs.Moments.{IsReadOnly};
 ghost use Rattle.qh_record.specs.Keeps.{KeepsJournal, IsWhole};
-ghost use Rattle.qh_run.specs.Ends.{answer_of, IsBounded, IsFaultless, MayEnd, IsComplete};
+ghost use Rattle.qh_run.specs.Ends.{answer_of, IsBounded, HasAll, AcceptsOld, IsFaultless, MayEnd, IsComplete};
 
 use crate::ended::{Ran, RunEnd};
 use qh_disk::Disk;
@@ -33,6 +33,8 @@ pub fn run_kept<D: Disk, F: Disk, T: Timer>(
 ) -> Ran<D>
     ensures whole { IfSome (answer_of result.end) (IsWhole (record { kept = true; fresh = fresh; taking = taking }) (arc_value job) (F.face old.old) (D.face disk) (D.face result.disk)) }
     ensures bounded { IfSome (answer_of result.end) IsBounded }
+    ensures sized { IfSome (answer_of result.end) (HasAll (arc_value job)) }
+    ensures accepted { IsSome (answer_of result.end) → AcceptsOld (record { kept = true; fresh = fresh; taking = taking }) (arc_value job) (F.face old.old) (D.face disk) }
     ensures fault { MayEnd (record { kept = true; fresh = fresh; taking = taking }) (arc_value job) (F.face old.old) (F.face old.new) (D.face disk) (D.face result.disk) result.end }
     ensures complete { IsFaultless (D.face disk) (D.face result.disk) → IsFaultless (F.face old.old) (F.face old.new)
         → IsComplete (record { kept = true; fresh = fresh; taking = taking }) (arc_value job) (F.face old.old) (D.face disk) result.end }

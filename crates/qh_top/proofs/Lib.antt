@@ -3,5 +3,8 @@ pub mod Saying
 pub mod Words
 pub mod Strings
 pub mod Causes
+pub mod Inputs
+pub mod Journals
+pub mod Ends
 pub mod Values
 mod FirstIndices

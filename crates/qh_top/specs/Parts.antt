@@ -1,6 +1,8 @@
 -- What the parts of the call stop with.
-use Rattle.std.specs.Prelude.{◌≡◌, ℕ, ◌<◌, ◌≤◌, true, false, List, length, IfSome, Option, Some, None}
-use Rattle.qh_limits.specs.Limits.{max_uncut_qubits, max_circuit_bytes, max_bits_bytes}
+use Rattle.std.specs.Prelude.{◌≡◌, ℕ, ◌<◌, ◌≤◌, true, false, List, length, All, IfSome, IsSome, Option, Some, None}
+use Rattle.qh_limits.specs.Limits.{max_uncut_qubits, max_circuit_bytes, max_bits_bytes, coefficient_bits}
+use Rattle.qh_ring.specs.declared.number.Omega.{Omega}
+use Rattle.qh_ring.specs.Numbers.{IsWithin}
 use Rattle.qh_gates.specs.Circuits.{Circuit}
 use Rattle.qh_gates.specs.Evolution.{IsUncutOver}
 use Rattle.qh_plan.specs.Jobs.{Job}
@@ -8,6 +10,7 @@ use Rattle.qh_plan.specs.declared.fault.PlanFault.{PlanFault}
 use Rattle.qh_plan.specs.declared.fault.PlanFault.TheVariants.{UncutTooWide as Wide}
 use Rattle.qh_plan.specs.declared.verdict.Verdict.TheVariants.{Over}
 use Rattle.qh_disk.specs.Disk.{Face}
+use Rattle.qh_disk.specs.Moments.{Runs}
 use Rattle.qh_record.specs.Record.{Keeping}
 use Rattle.qh_record.specs.Moments.{IsUnwritten, IsReadOnly}
 use Rattle.qh_record.specs.Keeps.{KeepsJournal}
@@ -15,9 +18,9 @@ use Rattle.qh_words.specs.declared.options.Options.{Options}
 use Rattle.qh_words.specs.declared.size.GenSize.{GenSize}
 use Rattle.qh_top.specs.Seen.{Seen, Rises}
 use Rattle.qh_top.specs.Inputs.{IsCircuitFile, IsFaultyCircuit, AreFaultyBits}
-use Rattle.qh_top.specs.Jobs.{IsPlannedJob, keeping}
+use Rattle.qh_top.specs.Jobs.{IsPlannedJob, Takes, keeping}
 use Rattle.qh_top.specs.Refusals.{PlanRefusesBy, JournalRefuses, DisksRise}
-use Rattle.qh_top.specs.Request.{IsRun}
+use Rattle.qh_top.specs.Request.{IsRun, RunIsWhole, EndsWhole}
 use Rattle.qh_top.specs.declared.stop.Refusal.TheVariants.{CircuitTooLong, CircuitLine, BitsTooLong, BitsLine, Plan}
 use Rattle.qh_run.specs.declared.ended.RunEnd.{RunEnd}
 use Rattle.qh_run.specs.declared.ended.RunEnd.TheVariants.{Sums, Over as PathOver, Disk, OldDisk, Refused as RunRefused, OldRefused, Memory as RunMemory}
@@ -73,12 +76,12 @@ PlanMayStop P _ = ⊥
 
 -- one that runs a job: its answer is over, or a disk failed, or a journal is refused, which leaves it as it was where it is not to be emptied
 abbrev pub JobMayStop : Keeping → Job → Face → Face → Face → Face → ℕ → ℕ → Stop → Type 0
-JobMayStop k j disk after old old_after granted granted_after (OverflowPath path) = IsRun k j old disk after granted granted_after (Over path)
-JobMayStop k j disk after old old_after granted granted_after DiskFault = DisksRise k disk after old old_after
-JobMayStop k j disk after old old_after granted granted_after Memory = Unit {0}
-JobMayStop k j disk after old old_after granted granted_after (Journal r) =
+JobMayStop k j disk after old old_after grants grants_after (OverflowPath path) = IsRun k j old disk after grants grants_after (Over path)
+JobMayStop k j disk after old old_after grants grants_after DiskFault = DisksRise k disk after old old_after
+JobMayStop k j disk after old old_after grants grants_after Memory = Unit {0}
+JobMayStop k j disk after old old_after grants grants_after (Journal r) =
     JournalRefuses (λ known P. IfSome known P) k j disk old r × (k.fresh ≡ false → IsUnwritten disk after)
-JobMayStop k j disk after old old_after granted granted_after _ = ⊥
+JobMayStop k j disk after old old_after grants grants_after _ = ⊥
 
 -- the stop that the end of a run is
 abbrev pub StopsWith : RunEnd → Stop → Type 0
@@ -91,26 +94,32 @@ StopsWith (OldRefused why) stop = stop ≡ Journal (OfOld why)
 StopsWith RunMemory stop = stop ≡ Memory
 
 -- one that plans a job and runs it
-pub record PlannedMayStop (o : Options) (part : List ℕ) (c : Circuit) (xs : List ℕ) (disk after old old_after : Face) (granted granted_after : ℕ) (stop : Stop) : Type 0 where
+pub record PlannedMayStop (o : Options) (part : List ℕ) (c : Circuit) (xs : List ℕ) (disk after old old_after : Face) (grants grants_after : ℕ) (stop : Stop) : Type 0 where
   pub job : Job
   pub planned : IsPlannedJob o part c xs job
-  pub stops : JobMayStop (keeping o) job disk after old old_after granted granted_after stop
+  pub stops : JobMayStop (keeping o) job disk after old old_after grants grants_after stop
 
 abbrev pub CutMayStop : Options → List ℕ → Circuit → List ℕ → Face → Face → Face → Face → ℕ → ℕ → Stop → Type 0
-CutMayStop o part c xs disk after old old_after granted granted_after (Refused (Plan fault)) = PlanRefusesBy (Some part) o c xs fault
-CutMayStop o part c xs disk after old old_after granted granted_after Memory = Unit {0}
-CutMayStop o part c xs disk after old old_after granted granted_after stop = PlannedMayStop o part c xs disk after old old_after granted granted_after stop
+CutMayStop o part c xs disk after old old_after grants grants_after (Refused (Plan fault)) = PlanRefusesBy (Some part) o c xs fault
+CutMayStop o part c xs disk after old old_after grants grants_after Memory = Unit {0}
+CutMayStop o part c xs disk after old old_after grants grants_after stop = PlannedMayStop o part c xs disk after old old_after grants grants_after stop
 
 -- one that answers of a circuit and basis indices
 abbrev pub AnswerMayStop : Option (List ℕ) → Options → Circuit → List ℕ → Face → Face → Face → Face → ℕ → ℕ → Stop → Type 0
-AnswerMayStop None o c xs disk after old old_after granted granted_after stop = UncutMayStop c stop
-AnswerMayStop (Some part) o c xs disk after old old_after granted granted_after stop = CutMayStop o part c xs disk after old old_after granted granted_after stop
+AnswerMayStop None o c xs disk after old old_after grants grants_after stop = UncutMayStop c stop
+AnswerMayStop (Some part) o c xs disk after old old_after grants grants_after stop = CutMayStop o part c xs disk after old old_after grants grants_after stop
+
+-- sums of a job that can be printed: one for each bitstring, each within 126 bits
+pub record IsPrintable (j : Job) (sums : List Omega) : Type 0 where
+  pub count : length sums ≡ length j.bits
+  pub within : All (IsWithin coefficient_bits) sums
 
 -- ---- what the parts do to the disks, where they call on one: what a run of the planned job does
 pub record JobMoves (k : Keeping) (j : Job) (disk after old old_after : Face) : Type 0 where
   pub kept : k.kept ≡ true
   pub keeps : KeepsJournal k j old disk after
   pub reading : IsReadOnly old old_after
+  pub old_runs : Runs old old_after
 
 pub record PlannedMoves (o : Options) (part : List ℕ) (c : Circuit) (xs : List ℕ) (disk after old old_after : Face) : Type 0 where
   pub job : Job
@@ -120,3 +129,14 @@ pub record PlannedMoves (o : Options) (part : List ℕ) (c : Circuit) (xs : List
 abbrev pub AnswerMoves : Option (List ℕ) → Options → Circuit → List ℕ → Face → Face → Face → Face → Type 0
 AnswerMoves None o c xs disk after old old_after = ⊥
 AnswerMoves (Some part) o c xs disk after old old_after = PlannedMoves o part c xs disk after old old_after
+
+-- the call came to a job that keeps a journal, and did to the disks what a run of that job does
+pub record Moves (o : Options) (circuit bits : Seen) (disk after old old_after : Face) : Type 0 where
+  pub job : Job
+  pub taken : Takes o circuit bits job
+  pub moves : JobMoves (keeping o) job disk after old old_after
+
+-- what a call with this status left beside its text and its stop: of a job, a whole run or none; and no write where a journal was refused
+pub record Ended (o : Options) (circuit bits out : Seen) (disk after old : Face) (grants grants_after status : ℕ) : Type 0 where
+  pub whole : RunIsWhole status → IsSome o.part → EndsWhole o circuit bits out disk after old grants grants_after status
+  pub unwritten : status ≡ 8 → o.fresh ≡ false → IsUnwritten disk after

@@ -1,5 +1,5 @@
 -- How a request is answered.
-use Rattle.std.specs.Prelude.{◌≡◌, ℕ, ◌<◌, ◌≤◌, ◌⊎◌, List, length, Some, None, Option, IfSome, IsSomeAnd, take}
+use Rattle.std.specs.Prelude.{◌≡◌, ℕ, ◌<◌, ◌≤◌, ◌⊎◌, false, List, length, Some, None, Option, IfSome, IsSomeAnd, take}
 use Rattle.std.specs.Io.KnownBytes.{Appends}
 use Rattle.qh_limits.specs.Limits.{max_uncut_qubits}
 use Rattle.qh_counts.specs.Counts.{RoseBy}
@@ -14,7 +14,7 @@ use Rattle.qh_disk.specs.Disk.{Face}
 use Rattle.qh_slots.specs.Stands.{Slots, slot_at}
 use Rattle.qh_record.specs.Record.{Keeping, slots_before, count_bare, IsEnd, IsFull}
 use Rattle.qh_record.specs.Moments.{BeginsTrue}
-use Rattle.qh_record.specs.Keeps.{KeepsJournal, IsWhole}
+use Rattle.qh_record.specs.Keeps.{IsWhole}
 use Rattle.qh_record.specs.Refusing.{Accepts}
 use Rattle.qh_words.specs.declared.options.Options.{Options}
 use Rattle.qh_top.specs.Seen.{Seen, Rises}
@@ -28,6 +28,10 @@ use Rattle.qh_top.specs.declared.stop.JournalRefusal.{JournalRefusal}
 -- a status with which the whole run was computed: the answer was written, or it is over, or the output failed
 abbrev pub RunIsWhole : ℕ → Type 0
 RunIsWhole status = (status ≡ 0) ⊎ ((status ≡ 3) ⊎ (status ≡ 6))
+
+-- a status with which the call ends before it comes to a job
+abbrev pub EndsEarly : ℕ → Type 0
+EndsEarly status = (status ≡ 1) ⊎ ((status ≡ 2) ⊎ (status ≡ 4))
 
 -- what is asked for went to a sink: all of it, or a front. `after` is the disk of the journal when the call ends.
 pub record Prints (o : Options) (circuit bits out : Seen) (after : Face) (front : List ℕ → List ℕ) : Type 0 where
@@ -68,26 +72,20 @@ pub record OverflowsOn (o : Options) (circuit bits : Seen) (after : Face) (path 
   pub unkept : o.journal ≡ None → run_value job ≡ Over path
 
 -- ---- the whole run of a job
--- The whole run is recorded, with this total: no journal was refused, and each range without a slot was granted.
-pub record IsRun (k : Keeping) (j : Job) (old disk after : Face) (granted granted_after : ℕ) (verdict : Verdict) : Type 0 where
+-- The whole run is recorded, with this total: no journal was refused, and each range without a slot was granted. Without a journal the total is the value of the run.
+pub record IsRun (k : Keeping) (j : Job) (old disk after : Face) (grants grants_after : ℕ) (verdict : Verdict) : Type 0 where
   pub whole : IsWhole k j old disk after verdict
   pub accepted : (r : JournalRefusal) → ¬ JournalRefuses (λ known P. IsSomeAnd known P) k j disk old r
-  pub granted : IfSome (slots_before k j disk old) (λ s0. RoseBy (count_bare j s0) granted granted_after)
+  pub granted : IfSome (slots_before k j disk old) (λ s0. RoseBy (count_bare j s0) grants grants_after)
+  pub unkept : k.kept ≡ false → verdict ≡ run_value j
 
 -- The call came to a job and made its whole run; what went out is what that job asks for where the slots at entry were true.
-pub record EndsWhole (o : Options) (circuit bits out : Seen) (disk after old : Face) (granted granted_after status : ℕ) : Type 0 where
+pub record EndsWhole (o : Options) (circuit bits out : Seen) (disk after old : Face) (grants grants_after status : ℕ) : Type 0 where
   pub job : Job
   pub taken : Takes o circuit bits job
   pub verdict : Verdict
-  pub run : IsRun (keeping o) job old disk after granted granted_after verdict
+  pub run : IsRun (keeping o) job old disk after grants grants_after verdict
   pub exact : BeginsTrue (keeping o) job disk old → PrintsAsked o job out status
-
--- the call came to a job that keeps a journal, and did to it what a run of that job does
-pub record Moves (o : Options) (circuit bits : Seen) (disk after old : Face) : Type 0 where
-  pub kept : (keeping o).kept ≡ true
-  pub job : Job
-  pub taken : Takes o circuit bits job
-  pub keeps : KeepsJournal (keeping o) job old disk after
 
 -- ---- faults, and what is answered without one
 -- a count of what words call on rose: of a source that they read, the output or a disk; words that are no request call on nothing

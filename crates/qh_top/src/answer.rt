@@ -8,6 +8,8 @@ ghost use Rattle.qh_gates.specs.Evolution.{uncut, NeverOver};
 ghost use Rattle.qh_plan.specs.Plans.{AreBits};
 ghost use Rattle.qh_top.specs.Answer.{gen_line, head_text};
 ghost use Rattle.qh_top.specs.Indexed.{IsUncutText, IsIndexedBy};
+ghost use Rattle.qh_top.specs.Request.{EndsEarly};
+ghost use Rattle.qh_top.specs.Stops.{status_of};
 ghost use Rattle.qh_top.specs.Parts.{UncutMayStop, AnswerMayStop, AnswerMoves};
 
 use crate::cut::cut_answer;
@@ -141,6 +143,7 @@ pub(crate) fn answer<D: Disk, F: Disk, T: Timer>(
     ensures answer { IfOk result (λ text. IsIndexedBy options.now.part options.now (D.face disk.old) (D.face disk.new) (F.face old.old) (T.granted_count timer.old) (T.granted_count timer.new) circuit indices.items text.items) }
     ensures cause { IfErr result (AnswerMayStop options.now.part options.now circuit indices.items (D.face disk.old) (D.face disk.new) (F.face old.old) (F.face old.new) (T.granted_count timer.old) (T.granted_count timer.new)) }
     ensures moves { ((disk.new ≡ disk.old) × (old.new ≡ old.old)) ⊎ AnswerMoves options.now.part options.now circuit indices.items (D.face disk.old) (D.face disk.new) (F.face old.old) (F.face old.new) }
+    ensures alone { IfErr result (λ stop. EndsEarly (status_of stop) → (disk.new ≡ disk.old) × (old.new ≡ old.old)) }
     ensures old_unasked { (options.now.from ≡ None) ⊎ ((options.now.fresh ≡ false) × IsSomeAnd (D.face disk.old).content (λ f. f ≢ [])) → old.new ≡ old.old }
     ensures loans { D.loans disk.new ≡ D.loans disk.old }
     ensures old_loans { F.loans old.new ≡ F.loans old.old }

@@ -3,12 +3,12 @@ ghost use Rattle.std.specs.Prelude.{◌≡◌, ◌≢◌, ◌⊎◌, [], false, 
 ghost use Rattle.std.specs.Arc.{arc_value};
 ghost use Rattle.qh_plan.specs.Plans.{AreBits};
 ghost use Rattle.qh_plan.specs.declared.verdict.Verdict.TheVariants.{Sum};
-ghost use Rattle.qh_run.specs.Ends.{IsPrintable};
 ghost use Rattle.qh_top.specs.Jobs.{IsPlannedJob, keeping};
-ghost use Rattle.qh_top.specs.Request.{IsRun};
 ghost use Rattle.qh_top.specs.Indexed.{IsSumsText, IsCutText};
 ghost use Rattle.qh_top.specs.Refusals.{PlanRefusesBy};
-ghost use Rattle.qh_top.specs.Parts.{PlanMayStop, JobMayStop, CutMayStop, JobMoves, PlannedMoves, StopsWith};
+ghost use Rattle.qh_top.specs.Request.{EndsEarly, IsRun};
+ghost use Rattle.qh_top.specs.Stops.{status_of};
+ghost use Rattle.qh_top.specs.Parts.{PlanMayStop, JobMayStop, CutMayStop, JobMoves, PlannedMoves, StopsWith, IsPrintable};
 
 use crate::answer::with_head;
 use crate::stop::{JournalRefusal, Stop};
@@ -72,7 +72,7 @@ fn job_sums<D: Disk, F: Disk, T: Timer>(
     timer: &mut T,
 ) -> Result<Vec<Omega>, Stop>
     ensures run { IfOk result (λ sums. IsRun (keeping options.now) (arc_value job) (F.face old.old) (D.face disk.old) (D.face disk.new) (T.granted_count timer.old) (T.granted_count timer.new) (Sum sums.items)) }
-    ensures printable { IfOk result (λ sums. IsPrintable (arc_value job) (Sum sums.items)) }
+    ensures printable { IfOk result (λ sums. IsPrintable (arc_value job) sums.items) }
     ensures cause { IfErr result (JobMayStop (keeping options.now) (arc_value job) (D.face disk.old) (D.face disk.new) (F.face old.old) (F.face old.new) (T.granted_count timer.old) (T.granted_count timer.new)) }
     ensures moves { ((disk.new ≡ disk.old) × (old.new ≡ old.old)) ⊎ JobMoves (keeping options.now) (arc_value job) (D.face disk.old) (D.face disk.new) (F.face old.old) (F.face old.new) }
     ensures old_unasked { (options.now.from ≡ None) ⊎ ((options.now.fresh ≡ false) × IsSomeAnd (D.face disk.old).content (λ f. f ≢ [])) → old.new ≡ old.old }
@@ -95,7 +95,7 @@ fn sums_text(
     job: &Job,
     sums: &[Omega],
 ) -> Result<Vec<u8>, Stop>
-    requires { IsPrintable job.now (Sum sums.now) }
+    requires { IsPrintable job.now sums.now }
     ensures text { IfOk result (λ text. IsSumsText generated job.now sums.now text.items) }
     ensures err { IfErr result (λ stop. stop ≡ Stop.Memory) }
 {
@@ -122,6 +122,7 @@ pub(crate) fn cut_answer<D: Disk, F: Disk, T: Timer>(
     ensures answer { IfOk result (λ text. IsCutText options.now (D.face disk.old) (D.face disk.new) (F.face old.old) (T.granted_count timer.old) (T.granted_count timer.new) part.now circuit indices.items text.items) }
     ensures cause { IfErr result (CutMayStop options.now part.now circuit indices.items (D.face disk.old) (D.face disk.new) (F.face old.old) (F.face old.new) (T.granted_count timer.old) (T.granted_count timer.new)) }
     ensures moves { ((disk.new ≡ disk.old) × (old.new ≡ old.old)) ⊎ PlannedMoves options.now part.now circuit indices.items (D.face disk.old) (D.face disk.new) (F.face old.old) (F.face old.new) }
+    ensures alone { IfErr result (λ stop. EndsEarly (status_of stop) → (disk.new ≡ disk.old) × (old.new ≡ old.old)) }
     ensures old_unasked { (options.now.from ≡ None) ⊎ ((options.now.fresh ≡ false) × IsSomeAnd (D.face disk.old).content (λ f. f ≢ [])) → old.new ≡ old.old }
     ensures loans { D.loans disk.new ≡ D.loans disk.old }
     ensures old_loans { F.loans old.new ≡ F.loans old.old }
