@@ -1,10 +1,10 @@
 //! The running total of a journal's slots: after each verdict that is added, it is the total of the slots with that verdict.
 //!
-//! It holds a number for each asked bitstring and a path, so the end of a run needs no pass over the slots. `new` takes memory for
-//! the numbers; `add` takes none and costs an addition for each asked bitstring. It neither keeps nor reads the slots, so it can't
-//! tell whether a verdict was added before: that a slot had none is for the caller to know. The slots that a total is of are known
-//! to the proof alone, and `add` asks that there be some (`CanAdd`). The other form, a ghost value that the caller picks, would
-//! not do: a pick may speak of the arguments of the call alone, and the caller's table is none of them.
+//! `new` takes memory for a number an asked bitstring. `add` takes none and adds once a bitstring, so the end of a run needs no
+//! pass over the slots. The crate neither keeps nor reads slots, and can't tell whether a verdict was added before: `add` requires
+//! that there be slots of which this is the total and to which the verdict may be added (`CanAdd`), and what it ensures holds of
+//! any such slots. A ghost value would not do: a caller picks one from the arguments of the call, and its table is none of them.
+//! What a caller that goes over a table keeps on the way stands in `proofs/FirstLemmas.antt`.
 #![tactic(auto)]
 
 mod laws;
