@@ -28,6 +28,6 @@ pub struct Options {
     pub journal: Option<Text>,
     /// `--new`: the journal is emptied first.
     pub fresh: bool,
-    /// `--from`: the journal of the first format whose slots an empty journal takes over.
+    /// `--from`: the file of a journal of the first format, from which an empty journal is filled.
     pub from: Option<Text>,
 }
