@@ -60,7 +60,7 @@ extends_same : (j : Job) (s : Slots) → Extends j s s
 extends_same j s = record { kept = λ r v e. e; added = λ r v no here. absurd (some_none (slot_at s r) v here no) }
 
 -- the values go on from no slots
-values_extend : (j : Job) → Extends j (nones j) (values j)
+pub values_extend : (j : Job) → Extends j (nones j) (values j)
 values_extend j = record { kept = λ r v e. absurd (some_none _ v e (no_slot j r)); added = λ r v no here. by r v here (cases_lt r (ranges j)) }
   where
     by : (r : ℕ) (v : Verdict) → slot_at (values j) r ≡ Some v → (r < ranges j) ⊎ (ranges j ≤ r) → v ≡ range_value j r

@@ -31,6 +31,7 @@ use Rattle.qh_top.specs.Request.{Prints, FaultCame, FaultFirst, Answers, Overflo
 use Rattle.qh_top.specs.Stops.{status_of, stop_of, MayStopBy, MayStop}
 use Rattle.qh_top.proofs.Words.{words_of_plan}
 use Rattle.qh_top.proofs.Strings.{asked_indices}
+use Rattle.qh_top.proofs.Sums.{not_kept}
 use Rattle.qh_top.specs.Parts.{FilesMayStop, InputMayStop, PlanMayStop, UncutMayStop, CutMayStop, AnswerMayStop}
 
 -- ---- what was read
@@ -215,9 +216,6 @@ plan_cause o circuit bits c xs a fault h = (words_of_plan o.part o c xs fault h,
 pub taken_job : (o : Options) (circuit bits : Seen) (c : Circuit) (xs : List ℕ) → IsInput o.generated o.max_time circuit bits c xs
     → (part : List ℕ) → o.part ≡ Some part → (j : Job) → IsPlannedJob o part c xs j → Takes o circuit bits j
 taken_job o circuit bits c xs a part e j p = record { value = c; indices = xs; input = a; part = part; cut = e; planned = p }
-
-pub not_kept : (o : Options) → o.journal ≡ None → (keeping o).kept ≡ false
-not_kept o e = ap (is_some {T = List ℕ}) e
 
 -- a run that is over
 overflows : (o : Options) (circuit bits : Seen) (disk after old : Face) (grants grants_after path : ℕ) (j : Job) → Takes o circuit bits j

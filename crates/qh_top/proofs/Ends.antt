@@ -201,10 +201,10 @@ module _ (asked : Option Options) (circuit bits out : Seen) (disk after old : Fa
   unwritten_by o e stale eight = (ended_by o e).unwritten eight stale
 
   -- of the job that is asked for
-  record Whole (o : Options) (j : Job) : Type 0 where
-    verdict : Verdict
-    run : IsRun (keeping o) j old disk after grants grants_after verdict
-    exact : BeginsTrue (keeping o) j disk old → PrintsAsked o j out status
+  pub record Whole (o : Options) (j : Job) : Type 0 where
+    pub verdict : Verdict
+    pub run : IsRun (keeping o) j old disk after grants grants_after verdict
+    pub exact : BeginsTrue (keeping o) j disk old → PrintsAsked o j out status
 
   pub whole_asked : (o : Options) (j : Job) → Asks asked circuit.before bits.before o j → RunIsWhole status → Whole o j
   whole_asked o j a done =

@@ -114,7 +114,7 @@ module _ {D F : Type 0} (face : D → Face) (old_face : F → Face) (disk after 
       by : (a : Option Options) → IsSomeAnd a (λ o. Moves o circuit bits (face disk) (face after) (old_face old) (old_face old_after))
           → IsSomeAnd a (λ o. IsSome o.journal × ((j : Job) × Takes o circuit bits j))
       by None m = absurd m
-      by (Some o) m = (m.moves.kept, m.job, m.taken)
+      by (Some o) m = (m.moves.kept, (m.job, m.taken))
 
   pub unwritten_refused : (o : Options) (j : Job) (r : JournalRefusal) → Asks asked circuit.before bits.before o j → o.fresh ≡ false
       → JournalRefuses (λ known P. IsSomeAnd known P) (keeping o) j (face disk) (old_face old) r → IsUnwritten (face disk) (face after)

@@ -6,5 +6,7 @@ pub mod Causes
 pub mod Inputs
 pub mod Journals
 pub mod Ends
+pub mod Sums
+pub mod Runs
 pub mod Values
 mod FirstIndices

@@ -4,7 +4,7 @@ use Rattle.qh_ring.specs.declared.number.Omega.{Omega}
 use Rattle.qh_gates.specs.Circuits.{Circuit, total_weight}
 use Rattle.qh_gates.specs.Evolution.{uncut, NeverOver}
 use Rattle.qh_plan.specs.declared.verdict.Verdict.TheVariants.{Sum}
-use Rattle.qh_plan.specs.Jobs.{Job, crossing, ranges}
+use Rattle.qh_plan.specs.Jobs.{Job, IsJob, crossing, ranges}
 use Rattle.qh_disk.specs.Disk.{Face}
 use Rattle.qh_print.specs.Output.{IsText}
 use Rattle.qh_words.specs.declared.options.Options.{Options}
@@ -31,6 +31,7 @@ pub record IsSumsText (generated : Option GenSize) (j : Job) (sums : List Omega)
 pub record IsCutText (o : Options) (disk after old : Face) (grants grants_after : ℕ) (part : List ℕ) (c : Circuit) (xs text : List ℕ) : Type 0 where
   pub job : Job
   pub planned : IsPlannedJob o part c xs job
+  pub valid : IsJob job
   pub sums : List Omega
   pub run : IsRun (keeping o) job old disk after grants grants_after (Sum sums)
   pub text_is : IsSumsText o.generated job sums text

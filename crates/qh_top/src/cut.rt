@@ -1,7 +1,7 @@
 //! The text of a circuit that is cut.
-ghost use Rattle.std.specs.Prelude.{◌≡◌, ◌≢◌, ◌⊎◌, [], false, Some, None, IfOk, IfErr, IsSomeAnd};
+ghost use Rattle.std.specs.Prelude.{◌≡◌, ◌≢◌, ◌⊎◌, [], false, Some, None, IfOk, IfErr, OnOk, IsSomeAnd};
 ghost use Rattle.std.specs.Arc.{arc_value};
-ghost use Rattle.qh_plan.specs.Plans.{AreBits};
+ghost use Rattle.qh_plan.specs.Plans.{AreBits, IsPlanned};
 ghost use Rattle.qh_plan.specs.declared.verdict.Verdict.TheVariants.{Sum};
 ghost use Rattle.qh_top.specs.Jobs.{IsPlannedJob, keeping};
 ghost use Rattle.qh_top.specs.Indexed.{IsSumsText, IsCutText};
@@ -33,6 +33,7 @@ fn planned(
 ) -> Result<Job, Stop>
     requires { AreBits circuit.qubits indices.items }
     ensures job { IfOk result (IsPlannedJob options.now part.now circuit indices.items) }
+    ensures planned { IfOk result IsPlanned }
     ensures cause { IfErr result (PlanMayStop (PlanRefusesBy (Some part.now) options.now circuit indices.items)) }
 {
     let items = match read_part(alloc, part) {
@@ -47,13 +48,23 @@ fn planned(
     }
 }
 
-/// The sums of a run, or the stop that its end is.
-fn sums_of(end: RunEnd) -> Result<Vec<Omega>, Stop>
-    ensures sums { IfOk result (λ sums. end ≡ RunEnd.Sums sums) }
+/// How a job's run ended, and its disk.
+#[derive(Drop)]
+struct Ended<D> {
+    disk: D,
+    answer: Result<(), Stop>,
+}
+
+/// Puts the sums of a run in `sums`, or answers the stop that its end is.
+fn sums_into(end: RunEnd, sums: &mut Vec<Omega>) -> Result<(), Stop>
+    ensures sums { OnOk result (end ≡ RunEnd.Sums sums.new) }
     ensures stop { IfErr result (StopsWith end) }
 {
     match end {
-        RunEnd::Sums(sums) => Ok(sums),
+        RunEnd::Sums(values) => {
+            *sums = values;
+            Ok(())
+        }
         RunEnd::Over { path } => Err(Stop::OverflowPath(path)),
         RunEnd::Disk | RunEnd::OldDisk => Err(Stop::DiskFault),
         RunEnd::Refused(fault) => Err(Stop::Journal(JournalRefusal::OfJournal(fault))),
@@ -62,7 +73,41 @@ fn sums_of(end: RunEnd) -> Result<Vec<Omega>, Stop>
     }
 }
 
-/// The sums of a job's run, which keeps a journal on the disk where the options ask for one.
+/// Runs a job and puts its sums in `sums`. It keeps a journal on the disk where the options ask for one.
+fn run_job<D: Disk, F: Disk, T: Timer>(
+    alloc: Global,
+    options: &Options,
+    job: Arc<Job>,
+    disk: D,
+    old: &mut F,
+    timer: &mut T,
+    sums: &mut Vec<Omega>,
+) -> Ended<D>
+    requires { IsPlanned (arc_value job) }
+    ensures run { OnOk result.answer (IsRun (keeping options.now) (arc_value job) (F.face old.old) (D.face disk) (D.face result.disk) (T.granted_count timer.old) (T.granted_count timer.new) (Sum sums.new.items)) }
+    ensures printable { OnOk result.answer (IsPrintable (arc_value job) sums.new.items) }
+    ensures cause { IfErr result.answer (JobMayStop (keeping options.now) (arc_value job) (D.face disk) (D.face result.disk) (F.face old.old) (F.face old.new) (T.granted_count timer.old) (T.granted_count timer.new)) }
+    ensures moves { ((result.disk ≡ disk) × (old.new ≡ old.old)) ⊎ JobMoves (keeping options.now) (arc_value job) (D.face disk) (D.face result.disk) (F.face old.old) (F.face old.new) }
+    ensures old_unasked { (options.now.from ≡ None) ⊎ ((options.now.fresh ≡ false) × IsSomeAnd (D.face disk).content (λ f. f ≢ [])) → old.new ≡ old.old }
+    ensures loans { D.loans result.disk ≡ D.loans disk }
+    ensures old_loans { F.loans old.new ≡ F.loans old.old }
+{
+    if options.journal.is_none() {
+        let ran = run_unkept(alloc, disk, job, timer);
+        return Ended {
+            disk: ran.disk,
+            answer: sums_into(ran.end, sums),
+        };
+    }
+    let taking = options.from.is_some();
+    let ran = run_kept(alloc, disk, old, job, options.fresh, taking, timer);
+    Ended {
+        disk: ran.disk,
+        answer: sums_into(ran.end, sums),
+    }
+}
+
+/// The sums of a job's run over a disk that is lent.
 fn job_sums<D: Disk, F: Disk, T: Timer>(
     alloc: Global,
     options: &Options,
@@ -71,6 +116,7 @@ fn job_sums<D: Disk, F: Disk, T: Timer>(
     old: &mut F,
     timer: &mut T,
 ) -> Result<Vec<Omega>, Stop>
+    requires { IsPlanned (arc_value job) }
     ensures run { IfOk result (λ sums. IsRun (keeping options.now) (arc_value job) (F.face old.old) (D.face disk.old) (D.face disk.new) (T.granted_count timer.old) (T.granted_count timer.new) (Sum sums.items)) }
     ensures printable { IfOk result (λ sums. IsPrintable (arc_value job) sums.items) }
     ensures cause { IfErr result (JobMayStop (keeping options.now) (arc_value job) (D.face disk.old) (D.face disk.new) (F.face old.old) (F.face old.new) (T.granted_count timer.old) (T.granted_count timer.new)) }
@@ -79,13 +125,12 @@ fn job_sums<D: Disk, F: Disk, T: Timer>(
     ensures loans { D.loans disk.new ≡ D.loans disk.old }
     ensures old_loans { F.loans old.new ≡ F.loans old.old }
 {
-    if options.journal.is_none() {
-        let ran = run_unkept(alloc, disk, job, timer);
-        return sums_of(ran.end);
+    let mut sums = Vec::new(alloc);
+    let ran = run_job(alloc, options, job, disk, old, timer, &mut sums);
+    match ran.answer {
+        Ok(()) => Ok(sums),
+        Err(stop) => Err(stop),
     }
-    let taking = options.from.is_some();
-    let ran = run_kept(alloc, disk, old, job, options.fresh, taking, timer);
-    sums_of(ran.end)
 }
 
 /// The lines of these sums, behind the first line where the circuit is generated.
