@@ -8,5 +8,6 @@ pub mod Journals
 pub mod Ends
 pub mod Sums
 pub mod Runs
+pub mod Unique
 pub mod Values
 mod FirstIndices

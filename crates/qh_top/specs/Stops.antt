@@ -123,9 +123,12 @@ attach_number (BadLength found) = decimal found
 attach_number (BadSlot range) = decimal range
 attach_number _ = []
 
+abbrev pub attach_text : AttachFault → List ℕ
+attach_text r = attach_name r ++ attach_number r ++ codes "\n"
+
 abbrev pub journal_line : JournalRefusal → List ℕ
-journal_line (OfJournal r) = codes "journal: " ++ attach_name r ++ attach_number r ++ codes "\n"
-journal_line (OfOld r) = codes "old journal: " ++ attach_name (attach_of r) ++ attach_number (attach_of r) ++ codes "\n"
+journal_line (OfJournal r) = codes "journal: " ++ attach_text r
+journal_line (OfOld r) = codes "old journal: " ++ attach_text (attach_of r)
 
 abbrev pub usage_line : List ℕ
 usage_line = codes "usage: qsimh_amplitudes -c FILE -i FILE [-d T] [-k LIST] [-p N] [-r N] [-w N] [-o FILE] [-t N] [-v N] [-j FILE] [-l SECONDS] [--new] [-g S,R,C,D]\n"

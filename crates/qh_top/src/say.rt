@@ -3,7 +3,7 @@ ghost use Rattle.std.specs.Prelude.{◌≡◌, ◌++◌, ◌∷◌, [], true, fa
 ghost use Rattle.std.specs.Io.KnownBytes.{Appends};
 ghost use Rattle.qh_counts.specs.Counts.{Rose};
 ghost use Rattle.qh_top.specs.Seen.{seen};
-ghost use Rattle.qh_top.specs.Stops.{message_of, refusal_line, plan_name, plan_number, number_text, circuit_why, bits_why, fault_line, attach_name, attach_number, journal_line, Says};
+ghost use Rattle.qh_top.specs.Stops.{message_of, refusal_line, plan_name, plan_number, number_text, circuit_why, bits_why, fault_line, attach_name, attach_number, attach_text, journal_line, Says};
 ghost use Rattle.qh_migrate.specs.Faults.{attach_of};
 
 use crate::stop::{Input, JournalRefusal, Refusal, Stop};
@@ -215,19 +215,26 @@ fn attach_of(fault: OldRefusal) -> AttachFault
     }
 }
 
-/// Says why a journal is refused, behind whose it is.
-fn tell_attach<E: Sink>(err: &mut E, whose: &str, fault: AttachFault)
-    ensures { Says (seen E.held E.faults err.old err.new) (whose.now ++ (attach_name fault ++ (attach_number fault ++ codes "\n"))) }
+/// Says what refuses a journal.
+fn tell_cause<E: Sink>(err: &mut E, fault: AttachFault)
+    ensures { Says (seen E.held E.faults err.old err.new) (attach_text fault) }
 {
-    if !say(err, whose.as_bytes()) {
-        return;
-    }
     let name = attach_name_text(fault);
     let Some(number) = number_of_attach(fault) else {
         say_three(err, name.as_bytes(), "".as_bytes(), "\n".as_bytes());
         return;
     };
     say_number(err, name, number, "\n");
+}
+
+/// Says whose journal is refused, and what refuses it.
+fn tell_attach<E: Sink>(err: &mut E, whose: &str, fault: AttachFault)
+    ensures { Says (seen E.held E.faults err.old err.new) (whose.now ++ attach_text fault) }
+{
+    if !say(err, whose.as_bytes()) {
+        return;
+    }
+    tell_cause(err, fault);
 }
 
 /// Says why a journal is refused.
