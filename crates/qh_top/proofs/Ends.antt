@@ -61,8 +61,8 @@ module _ (asked : Option Options) (circuit bits out : Seen) (disk after old old_
   how o e = elim (cases_eq status 0) [
     | inl zero ↦ inl (zero, subst (λ a. IsSomeAnd a (λ o. Prints o circuit bits out after (λ text. text))) e (printed zero))
     | inr more ↦
-      let s = stopped more in
-      inr (s.stop, s.status_is, subst (λ a. MayStop a circuit bits out disk after old old_after s.stop) e s.cause)
+        let s = stopped more in
+        inr (s.stop, s.status_is, subst (λ a. MayStop a circuit bits out disk after old old_after s.stop) e s.cause)
   ]
 
   one_or_seven : (stop : Stop) → status ≡ status_of stop → MayStop None circuit bits out disk after old old_after stop → (status ≡ 1) ⊎ (status ≡ 7)

@@ -95,8 +95,8 @@ module _ {D F : Type 0} (face : D → Face) (old_face : F → Face) (disk after 
   keeps_asked o j a = elim moves [
     | inl same ↦ subst (λ e. KeepsJournal (keeping o) j (old_face old) (face disk) (face e)) (sym same.0) (still_keeps (keeping o) j (old_face old) (face disk))
     | inr m ↦
-      let here = moved o a.request_is m in
-      subst (λ i. KeepsJournal (keeping o) i (old_face old) (face disk) (face after)) (same_job asked o circuit bits here.job j here.taken a) here.moves.keeps
+        let here = moved o a.request_is m in
+        subst (λ i. KeepsJournal (keeping o) i (old_face old) (face disk) (face after)) (same_job asked o circuit bits here.job j here.taken a) here.moves.keeps
   ]
 
   pub stays_stable : (o : Options) (j : Job) → asked ≡ Some o → o.fresh ≡ false → IsJob j → StaysStable j (face disk).clock (face after)

@@ -149,7 +149,14 @@ fn sums_text(
     let Ok(lines) = made else {
         return Err(Stop::Memory);
     };
-    with_head(alloc, generated, circuit, job.crossing(), job.ranges(), &lines)
+    with_head(
+        alloc,
+        generated,
+        circuit,
+        job.crossing(),
+        job.ranges(),
+        &lines,
+    )
 }
 
 /// The text of a circuit that is cut.

@@ -13,6 +13,8 @@ mod laws;
 mod names;
 mod say;
 mod stop;
+#[cfg(test)]
+mod tests;
 
 pub use alone::qsimh_alone;
 pub use laws::{bad_part_is_refused, one_answer};
