@@ -50,7 +50,7 @@ fn planned(
 
 /// How a job's run ended, and its disk.
 #[derive(Drop)]
-struct Ended<D> {
+struct JobEnd<D> {
     disk: D,
     answer: Result<(), Stop>,
 }
@@ -82,7 +82,7 @@ fn run_job<D: Disk, F: Disk, T: Timer>(
     old: &mut F,
     timer: &mut T,
     sums: &mut Vec<Omega>,
-) -> Ended<D>
+) -> JobEnd<D>
     requires { IsPlanned (arc_value job) }
     ensures run { OnOk result.answer (IsRun (keeping options.now) (arc_value job) (F.face old.old) (D.face disk) (D.face result.disk) (T.granted_count timer.old) (T.granted_count timer.new) (Sum sums.new.items)) }
     ensures printable { OnOk result.answer (IsPrintable (arc_value job) sums.new.items) }
@@ -94,14 +94,14 @@ fn run_job<D: Disk, F: Disk, T: Timer>(
 {
     if options.journal.is_none() {
         let ran = run_unkept(alloc, disk, job, timer);
-        return Ended {
+        return JobEnd {
             disk: ran.disk,
             answer: sums_into(ran.end, sums),
         };
     }
     let taking = options.from.is_some();
     let ran = run_kept(alloc, disk, old, job, options.fresh, taking, timer);
-    Ended {
+    JobEnd {
         disk: ran.disk,
         answer: sums_into(ran.end, sums),
     }

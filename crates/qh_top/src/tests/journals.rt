@@ -42,7 +42,7 @@ const BELL_FROM: Asked = Asked {
 
 /// Another circuit with Bell's words.
 const FLIPPED: Asked = Asked {
-    words: BELL.words,
+    words: &["-c", "a", "-i", "b", "-k", "0", "-j", "j"],
     circuit: b"2\n0 x 0\n1 cnot 0 1\n",
 };
 
@@ -66,9 +66,17 @@ const TWO_PRINTED: Wanted = Wanted {
     err: b"",
 };
 
-const FAULT: Wanted = stopped(5, b"disk fault\n");
+const FAULT: Wanted = Wanted {
+    status: 5,
+    out: b"",
+    err: b"disk fault\n",
+};
 
-const UNBEGUN: Wanted = stopped(8, b"journal: Unbegun\n");
+const UNBEGUN: Wanted = Wanted {
+    status: 8,
+    out: b"",
+    err: b"journal: Unbegun\n",
+};
 
 /// A run that writes no output.
 const fn stopped(status: u8, err: &'static [u8]) -> Wanted {
