@@ -7,6 +7,7 @@
 
 mod ended;
 mod run;
+mod worker;
 
 pub use ended::{Ran, RunEnd};
 pub use run::{run_kept, run_unkept};
