@@ -1,2 +1,4 @@
 -- Lemmas that the crates above cite.
 pub mod RecordLemmas
+pub mod CountLemmas
+pub mod CarryLemmas

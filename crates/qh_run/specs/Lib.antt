@@ -1,3 +1,4 @@
--- The definitions that contracts cite: how a run ends, and why, and what its worker keeps.
+-- The definitions that contracts cite: how a run ends, and why, what its worker keeps, and what its parts do.
 pub mod Ends
 pub mod Workers
+pub mod Carrying

@@ -6,7 +6,9 @@
 #![tactic(auto)]
 
 mod ended;
+mod ranges;
 mod run;
+mod stop;
 mod worker;
 
 pub use ended::{Ran, RunEnd};

@@ -58,7 +58,8 @@ fn point_for<L: Ledger>(
 }
 
 impl<L: Ledger> Worker<L> {
-    ghost use Rattle.std.specs.Prelude.{◌≡◌, ◌<◌, IfOk};
+    ghost use Rattle.std.specs.Prelude.{◌≡◌, ◌<◌, ◌≤◌, IfOk};
+    ghost use Rattle.qh_limits.specs.Limits.{max_ranges};
     ghost use Rattle.std.specs.Arc.{arc_value};
     ghost use Rattle.qh_plan.specs.Jobs.{ranges};
     ghost use Rattle.qh_meaning.specs.Values.{range_value};
@@ -81,6 +82,14 @@ impl<L: Ledger> Worker<L> {
             cache,
             steps,
         })
+    }
+
+    /// How many ranges the job has.
+    pub(crate) fn ranges(&self) -> u32
+        ensures value { result ≡ ranges self.now }
+        ensures few { result ≤ max_ranges }
+    {
+        self.job.ranges()
     }
 
     /// Evaluates the range of a ticket, from the checkpoint of the range's prefix value. It makes the checkpoint where it is not kept, which takes two halves.
