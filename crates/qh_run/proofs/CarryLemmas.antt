@@ -1,6 +1,6 @@
 -- How parts of a run follow one another.
 use Rattle.std.proofs.Common.{◌≡◌, ℕ, ◌+◌, ◌<◌, ◌≤◌, Bool, true, false, List, length, set, Option, Some, None, refl, sym, ap, subst, ◌∙◌}
-use Rattle.std.specs.Prelude.{IsSomeAnd}
+use Rattle.std.specs.Prelude.{IsSome, IsSomeAnd}
 use Rattle.std.specs.Bool.{OnTrue, OnFalse}
 use Rattle.std.proofs.lemmas.List.{length-set}
 use Rattle.qh_plan.specs.Jobs.{Job}
@@ -16,7 +16,10 @@ use Rattle.qh_board.specs.Board.{BoardView, begun, Serves}
 use Rattle.qh_board.specs.Claims.{TakesBack, StaysAsIs}
 use Rattle.qh_board.specs.Deliveries.{DiskRose}
 use Rattle.qh_counts.proofs.Chains.{rose_before}
-use Rattle.qh_run.specs.Carrying.{Carries, MayStop}
+use Rattle.qh_run.specs.declared.ended.RunEnd.{RunEnd}
+use Rattle.qh_run.specs.declared.ended.RunEnd.TheVariants.{Sums, Over, Disk as EndDisk, OldDisk, Refused, OldRefused, Memory as EndMemory}
+use Rattle.qh_run.specs.Ends.{answer_of}
+use Rattle.qh_run.specs.Carrying.{Carries, MayStop, MayLeave}
 use Rattle.qh_run.specs.declared.stop.Stop.{Stop}
 use Rattle.qh_run.specs.declared.stop.Stop.TheVariants.{Disk, Memory}
 
@@ -84,3 +87,16 @@ rose_later face loans j (Some d) (Some e) (Some f) went rose = rose_before _ _ _
 pub stop_later : {D T : Type 0} (face : D → Face) (loans : D → List ℕ) (old mid new : BoardView D T) (s : Stop) → Carries face loans old mid → MayStop face mid new s → MayStop face old new s
 stop_later face loans old mid new Disk a stop = rose_later face loans old.job old.journal.disk mid.journal.disk new.journal.disk a.disk stop
 stop_later face loans old mid new Memory a stop = tt
+
+no_answer : false ≡ true → ⊥
+no_answer e = cc
+
+-- an answer has no cause
+pub answer_leaves : {D : Type 0} (face : D → Face) (old new : Option D) (end : RunEnd) → IsSome (answer_of end) → MayLeave face old new end
+answer_leaves face old new (Sums sums) some = tt
+answer_leaves face old new (Over path) some = tt
+answer_leaves face old new EndDisk some = absurd (no_answer some)
+answer_leaves face old new OldDisk some = absurd (no_answer some)
+answer_leaves face old new (Refused why) some = absurd (no_answer some)
+answer_leaves face old new (OldRefused why) some = absurd (no_answer some)
+answer_leaves face old new EndMemory some = tt

@@ -2,3 +2,4 @@
 pub mod RecordLemmas
 pub mod CountLemmas
 pub mod CarryLemmas
+pub mod CompleteLemmas

@@ -6,6 +6,7 @@
 #![tactic(auto)]
 
 mod ended;
+mod over;
 mod ranges;
 mod run;
 mod stop;
