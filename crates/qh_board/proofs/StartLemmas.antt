@@ -75,8 +75,8 @@ started_acked table n c new is inside some after = record {
 pub started_all : (table : Slots) (n : ℕ) (c : CourseView) → n ≡ length table → IsStartedBelow table n c → c ≡ started table
 started_all table n c count is =
     let leases : c.leases ≡ map lease_for table = ext_get_or Fresh c.leases (map lease_for table) (is.count ∙ sym (length-map table lease_for)) (λ r low.
-        let inside : r < length table = let same = is.count in omega arith in
-        is.below r (omega arith) ∙ sym (get_or-map lease_for table r None Fresh inside)) in
+    let inside : r < length table = let same = is.count in omega arith in
+    is.below r (omega arith) ∙ sym (get_or-map lease_for table r None Fresh inside)) in
     λ i. record { leases = leases i; history = is.history i; fault = is.fault i }
 
 -- ---- the total

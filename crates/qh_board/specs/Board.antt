@@ -17,7 +17,7 @@ use Rattle.qh_lease.specs.Lease.{lease_at, is_acked}
 use Rattle.qh_lease.specs.Tally.{Count}
 use Rattle.qh_replay.specs.Noted.{counted}
 use Rattle.qh_replay.specs.Replay.{CourseView, is_begun}
-use Rattle.qh_totals.specs.Running.{Running, IsTotalOf}
+use Rattle.qh_totals.specs.Running.{Running, IsTotalOf, CanAdd}
 
 -- A run's job and its journal; the timer that is lent to the board; the leases, with all that was done; the total of the journal's
 -- slots; and what its callers were granted, gave back and were acknowledged.
@@ -57,6 +57,12 @@ pub record IsBoard {D T : Type 0} (face : D → Face) (b : BoardView D T) : Type
   pub halt : b.journal.failed ≡ is_some b.course.fault
   pub faults : (n : ℕ) → b.course.fault ≡ Some n → ForSome b.journal.disk (λ d. n ≡ (face d).faults)
   pub reads : (s0 : Slots) → BeganWith b s0 → ForSome b.journal.disk (λ d. Reads (face d) (GoesOn b.job s0))
+
+-- the slot of a range is open, and the total is that of slots to which its verdict may be added
+pub record IsAddable (j : Job) (table : Slots) (range : ℕ) (t : Running) : Type 0 where
+  pub verdict : Verdict
+  pub held : slot_at table range ≡ Some verdict
+  pub can : CanAdd j t range verdict
 
 -- What a call does to the disk: it is the same one, reached through the same loans; what is stable stays stable; and each image was
 -- made by runs of the job, where it was before, and goes on from the slots from which those before went on.

@@ -6,6 +6,7 @@ ghost use Rattle.qh_board.specs.Board.{begun, Serves};
 ghost use Rattle.qh_board.specs.Deliveries.{DeliveryComes, DeliveryDoes};
 
 use crate::board::Board;
+use crate::start::add_slot;
 use qh_disk::Disk;
 use qh_lease::{Lease, Ledgers, Share, Timer};
 use qh_meaning::range_value_fits;
@@ -47,13 +48,12 @@ impl<'d, D: Disk, T: Timer, N: Ledgers> Board<'d, D, T, N> {
         prove!(self.course.history().len() <= 64 * 16384);
         let range = outcome.range();
         let attempt = outcome.attempt();
+        prove!(range < self.job.ranges());
         if let Err(failed) = self.journal.store(range, outcome.into_verdict()) {
             self.course.halt(failed.faults);
             return Delivery::DiskFault;
         }
-        if let Some(verdict) = self.journal.slot(range) {
-            self.total.add(&self.job, range, verdict);
-        }
+        add_slot(&mut self.total, &self.journal, &self.job, range);
         self.course.acknowledge(range, attempt);
         self.tally.ack(share);
         Delivery::Acked

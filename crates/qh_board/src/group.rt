@@ -1,5 +1,5 @@
 //! Results that are recorded together.
-ghost use Rattle.std.specs.Prelude.{◌≡◌, ◌↔◌, ◌<◌, ◌++◌, ◌∷◌, [], length, IsTrue};
+ghost use Rattle.std.specs.Prelude.{◌≡◌, ◌↔◌, ◌<◌, ◌≤◌, ◌++◌, ◌∷◌, [], length, IsTrue, IfSome, IfNone};
 
 use arrayvec::ArrayVec;
 use qh_range::RangeResult;
@@ -36,6 +36,14 @@ impl Group {
         }
     }
 
+    /// How many results there are.
+    pub fn len(&self) -> usize
+        ensures value { result ≡ length self.now }
+        ensures few { result ≤ GROUP_RESULTS }
+    {
+        self.results.len()
+    }
+
     /// Whether there is no result.
     pub fn is_empty(&self) -> bool
         ensures { IsTrue result ↔ (self.now ≡ []) }
@@ -56,5 +64,16 @@ impl Group {
         ensures { self.new ≡ self.old ++ outcome ∷ [] }
     {
         self.results.push(Some(outcome));
+    }
+
+    /// Takes the first result out, None where there is none.
+    pub(crate) fn take_first(&mut self) -> Option<RangeResult>
+        ensures some { IfSome result (λ r. self.old ≡ r ∷ self.new) }
+        ensures none { IfNone result (self.old ≡ []) }
+    {
+        if self.results.is_empty() {
+            return None;
+        }
+        self.results.remove(0)
     }
 }

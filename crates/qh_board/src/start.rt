@@ -1,8 +1,10 @@
 //! The course and the total with which a run begins.
-ghost use Rattle.std.specs.Prelude.{◌≡◌, IfOk};
+ghost use Rattle.std.specs.Prelude.{◌≡◌, Some, IfOk, set};
+ghost use Rattle.qh_plan.specs.declared.verdict.Verdict.{Verdict as VerdictValue};
+ghost use Rattle.qh_slots.specs.Stands.{Slots, slot_at};
 ghost use Rattle.qh_journal.specs.Calls.{IsJournal};
-ghost use Rattle.qh_totals.specs.Running.{IsTotalOf};
-ghost use Rattle.qh_board.specs.Board.{started};
+ghost use Rattle.qh_totals.specs.Running.{IsTotalOf, IsNext};
+ghost use Rattle.qh_board.specs.Board.{started, IsAddable};
 
 use qh_disk::Disk;
 use qh_journal::Journal;
@@ -47,4 +49,22 @@ pub(crate) fn total_of<D: Disk>(
         }
     }
     Ok(total)
+}
+
+/// Adds the verdict of an open slot to what the slots without it give together.
+pub(crate) fn add_slot<D: Disk>(
+    total: &mut RunningTotal,
+    journal: &Journal<D>,
+    job: &Job,
+    range: u32,
+)
+    requires job { journal.now.job ≡ job.now }
+    requires open { IsAddable job.now journal.now.table range total.old }
+    ensures { (v : VerdictValue) (s : Slots) → slot_at journal.now.table range ≡ Some v → IsTotalOf job.now s total.old → IsNext job.now s range v
+        → IsTotalOf job.now (set s range (Some v)) total.new }
+{
+    prove!(range < job.ranges());
+    if let Some(verdict) = journal.slot(range) {
+        total.add(job, range, verdict);
+    }
 }

@@ -19,13 +19,13 @@ loop-range-preserved g c =
           let held : slot_at table c.loop-range.range ≡ Some w.in-Some.verdict.now = sym c.slot.ensures ∙ ap (option_map (λ v. v.now)) w.in-Some.is in
           let inside : c.loop-range.range < length table = subst (λ (n : ℕ). c.loop-range.range < n) (sym count) low in
           subst (λ (t : Running). IsTotalBelow j table (c.loop-range.range + 1) t) (sym w.total-is)
-              (total_added j table c.loop-range.range c.loop-range.total w.add.new.self w.in-Some.verdict.now inside held c.loop-range.invariant
-              (w.add.ensures c.loop-range.invariant.slots c.loop-range.invariant.total
-              (total_next j table c.loop-range.range c.loop-range.total w.in-Some.verdict.now count fit low held c.loop-range.invariant)))
+          (total_added j table c.loop-range.range c.loop-range.total w.add.new.self w.in-Some.verdict.now inside held c.loop-range.invariant
+          (w.add.ensures c.loop-range.invariant.slots c.loop-range.invariant.total
+          (total_next j table c.loop-range.range c.loop-range.total w.in-Some.verdict.now count fit low held c.loop-range.invariant)))
       | in_default w ↦
           let bare : slot_at table c.loop-range.range ≡ None = sym c.slot.ensures ∙ ap (option_map (λ v. v.now)) w.in_default.is in
           subst (λ (t : Running). IsTotalBelow j table (c.loop-range.range + 1) t) (sym w.total-is)
-              (total_bare j table c.loop-range.range c.loop-range.total c.loop-range.invariant bare)
+          (total_bare j table c.loop-range.range c.loop-range.total c.loop-range.invariant bare)
     ]
 
 pub returns : goal.returns
