@@ -7,17 +7,17 @@ use Rattle.std.proofs.lemmas.Option.{cond_some}
 use Rattle.clap.specs.Words.{Text, HasMatchesOf, fault_of}
 use Rattle.clap.specs.declared.parser.matches.ArgMatches.{ArgMatches}
 use Rattle.qh_words.specs.Command.{command, given, is_taken, program, value_in}
-use Rattle.qh_words.specs.Request.{Values, asked, has_cut, has_numbers, has_source, options_by, options_of}
+use Rattle.qh_words.specs.Request.{Values, asked, has_cut, has_journal, has_numbers, has_source, options_by, options_of}
 use Rattle.qh_words.specs.Size.{IsGenSize}
 use Rattle.qh_words.specs.declared.options.Options.{Options}
 use Rattle.qh_words.proofs.Simple.{values}
 use Rattle.qh_words.proofs.Sizes.{sized_option}
 
 -- no options without a source
-pub no_source : (numbers source cut : Bool) (o : Options) → source ≡ false
-    → (if numbers && source && cut then Some o else None) ≡ None
-no_source true source cut o e = rw e refl
-no_source false source cut o e = refl
+pub no_source : (numbers source cut journal : Bool) (o : Options) → source ≡ false
+    → (if numbers && source && cut && journal then Some o else None) ≡ None
+no_source true source cut journal o e = rw e refl
+no_source false source cut journal o e = refl
 
 -- the values among the matches are those that the words give
 same_values : (m : ArgMatches) (words : List Text) → HasMatchesOf command (program ∷ words) m → value_in m ≡ given words
@@ -47,5 +47,5 @@ refused words fault =
 -- the size among the options is in its range
 pub has_size : (value : Values) (o : Options) → options_by value ≡ Some o → IfSome o.generated IsGenSize
 has_size value o h =
-    let found = cond_some (has_numbers value && has_source value && has_cut value) (asked value) o h in
+    let found = cond_some (has_numbers value && has_source value && has_cut value && has_journal value) (asked value) o h in
     subst (λ (q : Options). IfSome q.generated IsGenSize) found.1 (sized_option (value (codes "g")))

@@ -1,5 +1,6 @@
 -- What the words ask for, option by option.
-use Rattle.std.specs.Prelude.{ℕ, ◌+◌, ◌&&◌, ◌||◌, Bool, true, not, List, Option, Some, None, is_some, codes, option_map, option_and_then, if◌then◌else◌}
+use Rattle.std.specs.Prelude.{ℕ, ◌+◌, ◌&&◌, ◌||◌, Bool, true, false, not}
+use Rattle.std.specs.Prelude.{bytes_eq, List, Option, Some, None, is_some, codes, option_map, option_and_then, if◌then◌else◌}
 use Rattle.std.specs.Option.{option_map_or}
 use Rattle.qh_decimal.specs.Decimal.{number_below, value_of}
 use Rattle.qh_limits.specs.Limits.{max_crossing}
@@ -7,7 +8,7 @@ use Rattle.qh_words.specs.Command.{given, is_taken}
 use Rattle.qh_words.specs.Size.{size_of}
 use Rattle.qh_words.specs.declared.options.Options.{Options}
 
--- the values of the options, by their letters
+-- the values of the options, by their names
 abbrev pub Values : Type 0
 Values = List ℕ → Option (List ℕ)
 
@@ -18,6 +19,10 @@ is_number most value = option_map_or (λ text. is_some (number_below (most + 1) 
 -- the number of an option, or the default where the option is absent
 abbrev pub number_or : ℕ → Option (List ℕ) → ℕ
 number_or default value = option_map_or value_of value default
+
+-- the flag is given
+abbrev pub is_set : Option (List ℕ) → Bool
+is_set value = option_map_or (λ text. bytes_eq text (codes "true")) value false
 
 -- each number is one of its range: the greatest time, the prefix and root gates, the prefix value
 -- and the verbosity
@@ -33,10 +38,15 @@ has_source value = if is_some (value (codes "g"))
     && not (is_some (value (codes "c")) || is_some (value (codes "i")) || is_some (value (codes "d")))
     else is_some (value (codes "c")) && is_some (value (codes "i"))
 
--- prefix gates, root gates and a prefix value only with a part 1
+-- prefix gates, root gates, a prefix value, a journal and an emptied one only with a part 1
 abbrev pub has_cut : Values → Bool
 has_cut value = is_some (value (codes "k"))
-    || not (is_some (value (codes "p")) || is_some (value (codes "r")) || is_some (value (codes "w")))
+    || not (is_some (value (codes "p")) || is_some (value (codes "r")) || is_some (value (codes "w"))
+    || is_some (value (codes "j")) || is_set (value (codes "new")))
+
+-- an emptied journal and an old one to fill it from only with a journal
+abbrev pub has_journal : Values → Bool
+has_journal value = is_some (value (codes "j")) || not (is_set (value (codes "new")) || is_some (value (codes "from")))
 
 -- the options, by their values
 abbrev pub asked : Values → Options
@@ -50,11 +60,14 @@ asked value = record {
   r = number_or 0 (value (codes "r"));
   w = option_map value_of (value (codes "w"));
   generated = option_and_then size_of (value (codes "g"));
+  journal = value (codes "j");
+  fresh = is_set (value (codes "new"));
+  from = value (codes "from");
 }
 
 abbrev pub options_by : Values → Option Options
 options_by value =
-    if has_numbers value && has_source value && has_cut value then Some (asked value) else None
+    if has_numbers value && has_source value && has_cut value && has_journal value then Some (asked value) else None
 
 -- what the words after the program's name ask for; none where they are no request
 unfoldable pub options_of : List (List ℕ) → Option Options

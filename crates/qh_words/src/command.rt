@@ -2,16 +2,17 @@
 
 ghost use Rattle.std.specs.Prelude.{◌≡◌, ◌≢◌, ◌∷◌, [], IfOk, OnOk, fold, map};
 ghost use Rattle.std.specs.Option.{option_copied};
-ghost use Rattle.clap.specs.Words.{HasMatchesOf, app_of, fault_of};
-ghost use Rattle.qh_words.specs.Command.{command, value_in, with_letter};
+ghost use Rattle.clap.specs.Words.{HasMatchesOf, app_of, fault_of, with_rule};
+ghost use Rattle.qh_words.specs.Command.{command, fresh_rule, from_rule, value_in, with_letter};
+ghost use Rattle.qh_words.specs.Request.{is_set};
 
 use crate::fault::WordsFault;
 use clap::error::ErrorKind;
 use clap::{Arg, ArgAction, ArgMatches, Command};
 use std::alloc::{AllocError, Global};
 
-/// The options, each of which has a value: the name by which the matches know it, and its letter.
-const OPTIONS: [(&str, char); 10] = [
+/// The options that have a letter, each of which has a value: the name by which the matches know it, and its letter.
+const OPTIONS: [(&str, char); 11] = [
     ("c", 'c'),
     ("i", 'i'),
     ("d", 'd'),
@@ -22,6 +23,7 @@ const OPTIONS: [(&str, char); 10] = [
     ("o", 'o'),
     ("v", 'v'),
     ("g", 'g'),
+    ("j", 'j'),
 ];
 
 /// The matches of the words, whose first is the program's name.
@@ -46,11 +48,21 @@ pub fn matches<'a>(alloc: Global, words: &'a [&'a str]) -> Result<ArgMatches<'a>
     }
 }
 
-/// The value of an option, by its letter.
-pub fn value<'a>(matches: &ArgMatches<'a>, letter: &str) -> Option<&'a str>
-    ensures { option_copied result ≡ value_in matches.now letter.now }
+/// The value of an option, by its name.
+pub fn value<'a>(matches: &ArgMatches<'a>, name: &str) -> Option<&'a str>
+    ensures { option_copied result ≡ value_in matches.now name.now }
 {
-    matches.get_str(letter)
+    matches.get_str(name)
+}
+
+/// Whether a flag is given, by its name.
+pub fn is_set(matches: &ArgMatches<'_>, name: &str) -> bool
+    ensures { result ≡ is_set (value_in matches.now name.now) }
+{
+    let Some(text) = value(matches, name) else {
+        return false;
+    };
+    text == "true"
 }
 
 /// The command with its options.
@@ -59,7 +71,19 @@ fn command_line<'a>(alloc: Global) -> Result<Command<'a>, AllocError>
     ensures { IfOk result (λ c. app_of c ≡ command) }
 {
     let command = Command::new(alloc, "qsimh_amplitudes");
-    with_options(alloc, command, &OPTIONS)
+    let command = with_options(alloc, command, &OPTIONS)?;
+    with_journal_options(alloc, command)
+}
+
+/// The command with the options that have no letter.
+fn with_journal_options<'a>(alloc: Global, command: Command<'a>) -> Result<Command<'a>, AllocError>
+    ensures { IfOk result (λ c. app_of c ≡ with_rule (with_rule (app_of command.entry) fresh_rule) from_rule) }
+{
+    let fresh = Arg::new(alloc, "new")
+        .long("new")
+        .action(ArgAction::SetTrue);
+    let from = Arg::new(alloc, "from").long("from").action(ArgAction::Set);
+    command.arg(fresh)?.arg(from)
 }
 
 /// The command with these options too, each of which is named by its letter.

@@ -24,4 +24,10 @@ pub struct Options {
     pub w: Option<u32>,
     /// `-g`: the circuit that is generated in place of files.
     pub generated: Option<GenSize>,
+    /// `-j`: the file of the journal; without it none is kept.
+    pub journal: Option<Text>,
+    /// `--new`: the journal is emptied first.
+    pub fresh: bool,
+    /// `--from`: the file of a journal of the first format, from which an empty journal is filled.
+    pub from: Option<Text>,
 }

@@ -3,10 +3,10 @@
 ghost use Rattle.std.specs.Prelude.{◌≡◌, ◌∷◌, IfOk, IfSome, IsTrue, codes, map, option_and_then, string_bytes};
 ghost use Rattle.std.specs.Option.{SomeIff, option_copied};
 ghost use Rattle.qh_words.specs.Command.{program, value_in};
-ghost use Rattle.qh_words.specs.Request.{has_cut, has_source, options_by, options_of};
+ghost use Rattle.qh_words.specs.Request.{has_cut, has_journal, has_source, is_set, options_by, options_of};
 ghost use Rattle.qh_words.specs.Size.{IsGenSize, size_of};
 
-use crate::command::{matches, value};
+use crate::command::{is_set, matches, value};
 use crate::fault::WordsFault;
 use crate::numbers::{Numbers, read_numbers};
 use crate::options::Options;
@@ -20,7 +20,8 @@ use std::alloc::{AllocError, Global};
 /// Usage comes exactly where one of these holds. `clap` refuses the words, as it refuses help, an
 /// unknown option, an option twice and a stray word. A number is no decimal number of its range.
 /// `-c` or `-i` is absent without `-g`. `-g` stands with `-c`, `-i` or `-d`, or its value is no
-/// size. `-p`, `-r` or `-w` stands without `-k`. Memory is want of memory alone.
+/// size. `-p`, `-r`, `-w`, `-j` or `--new` stands without `-k`. `--new` or `--from` stands without
+/// `-j`. Memory is want of memory alone.
 pub fn read_words(alloc: Global, words: &[String]) -> Result<Options, WordsFault>
     ensures asked { IfOk result (λ o. options_of (map string_bytes words.now) ≡ Some o) }
     ensures usage { result ≡ Err WordsFault.Usage → options_of (map string_bytes words.now) ≡ None }
@@ -59,6 +60,9 @@ fn read_options(alloc: Global, matches: &ArgMatches<'_>) -> Result<Options, Word
     if !has_cut_options(matches) {
         return Err(WordsFault::Usage);
     }
+    if !has_journal_options(matches) {
+        return Err(WordsFault::Usage);
+    }
     let Ok(options) = with_texts(alloc, matches, numbers, generated) else {
         return Err(WordsFault::Memory);
     };
@@ -87,14 +91,23 @@ fn read_source(matches: &ArgMatches<'_>) -> Option<Option<GenSize>>
     Some(Some(size))
 }
 
-/// Prefix gates, root gates and a prefix value stand only with a part 1.
+/// Prefix gates, root gates, a prefix value, a journal and an emptied one stand only with a part 1.
 fn has_cut_options(matches: &ArgMatches<'_>) -> bool
     ensures { result ≡ has_cut (value_in matches.now) }
 {
     value(matches, "k").is_some()
         || !(value(matches, "p").is_some()
             || value(matches, "r").is_some()
-            || value(matches, "w").is_some())
+            || value(matches, "w").is_some()
+            || value(matches, "j").is_some()
+            || is_set(matches, "new"))
+}
+
+/// An emptied journal and an old one to fill it from stand only with a journal.
+fn has_journal_options(matches: &ArgMatches<'_>) -> bool
+    ensures { result ≡ has_journal (value_in matches.now) }
+{
+    value(matches, "j").is_some() || !(is_set(matches, "new") || value(matches, "from").is_some())
 }
 
 /// The options with copies of their texts.
@@ -114,6 +127,9 @@ fn with_texts(
       r = numbers.r;
       w = numbers.w;
       generated = generated;
+      journal = value_in matches.now (codes "j");
+      fresh = is_set (value_in matches.now (codes "new"));
+      from = value_in matches.now (codes "from");
     }) }
 {
     Ok(Options {
@@ -126,6 +142,9 @@ fn with_texts(
         r: numbers.r,
         w: numbers.w,
         generated,
+        journal: copied(alloc, value(matches, "j"))?,
+        fresh: is_set(matches, "new"),
+        from: copied(alloc, value(matches, "from"))?,
     })
 }
 

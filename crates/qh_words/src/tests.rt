@@ -40,7 +40,6 @@ fn refuses_what_is_no_request(rt: HostRuntime) {
         "-c a -i b -x 1",
         "-c a -i b -t 0",
         "-c a -i b -t 1",
-        "-c a -i b -k 0 -j f",
         "-c a -i b -k 0 -l 1",
         "-c a -i b --new",
         "-c a -i b -d -1",
@@ -55,6 +54,23 @@ fn refuses_what_is_no_request(rt: HostRuntime) {
         "-c a -i b -k 0 -p 33",
         "-c a -i b -k 0 -r 4294967296",
         "-c a -i b -k 0 -w 4294967296",
+        "-c a -i b -j f",
+        "-c a -i b -j ",
+        "-c a -i b -j f --new",
+        "-c a -i b -k 0 --new",
+        "-c a -i b -k 0 --from g",
+        "-c a -i b -k 0 --new --from g",
+        "-c a -i b -k 0 -j f -j f",
+        "-c a -i b -k 0 -j f --new --new",
+        "-c a -i b -k 0 -j f --from g --from g",
+        "-c a -i b -k 0 -j",
+        "-c a -i b -k 0 -j f --from",
+        "-c a -i b -k 0 -j f --new=true",
+        "-c a -i b -k 0 -j f --new true",
+        "-c a -i b -k 0 -j f -n",
+        "-c a -i b -k 0 -j f -f g",
+        "-c a -i b -k 0 -j f --ne",
+        "-c a -i b -k 0 --j f",
     ] {
         assert!(rt;
             read(rt.alloc(), line).err() == Some(WordsFault::Usage),
@@ -101,6 +117,7 @@ fn reads_defaults(rt: HostRuntime) -> Result<(), Fail> {
         assert_eq!(rt; options.r, 0);
         assert_eq!(rt; options.w, None);
         assert_eq!(rt; options.generated, None);
+        assert!(rt; options.journal.is_none() && options.from.is_none() && !options.fresh);
     }
     Ok(())
 }
@@ -116,6 +133,26 @@ fn reads_each_option(rt: HostRuntime) -> Result<(), Fail> {
     assert_eq!(rt; options.w, Some(4294967295));
     let out = options.out.ok_or("an output")?.into_string();
     assert_eq!(rt; out.as_str(), "out");
+    Ok(())
+}
+
+#[test]
+fn reads_a_journal(rt: HostRuntime) -> Result<(), Fail> {
+    for (line, journal, fresh, from) in [
+        ("-k 0 -c a -i b", "-", false, "-"),
+        ("-k 0 -j f -c a -i b", "f", false, "-"),
+        ("-jf -c a -i b -k 0", "f", false, "-"),
+        ("-c a -i b -k 0 -j ", "", false, "-"),
+        ("--new -c a -i b -k 0 -j f", "f", true, "-"),
+        ("-c a -i b -k 0 --from g -j f", "f", false, "g"),
+        ("--from=g --new -j f -k 0 -g 1,2,2,3", "f", true, "g"),
+        ("-c a -i b -k 0 -j f --from ", "f", false, ""),
+    ] {
+        let options = read(rt.alloc(), line).ok().ok_or("a request")?;
+        assert_eq!(rt; text(&options.journal), journal, "at {line}");
+        assert_eq!(rt; options.fresh, fresh, "at {line}");
+        assert_eq!(rt; text(&options.from), from, "at {line}");
+    }
     Ok(())
 }
 

@@ -1,0 +1,5 @@
+pub mod BoardLemmas
+pub mod GroupLemmas
+pub mod StartLemmas
+pub mod DeliverLemmas
+pub mod DiskLemmas

@@ -1,0 +1,5 @@
+-- The board of a run, and what its calls promise.
+pub mod Board
+pub mod Claims
+pub mod Deliveries
+pub mod Groups

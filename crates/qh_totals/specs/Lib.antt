@@ -1,0 +1,2 @@
+-- The running total of a journal's slots.
+pub mod Running
