@@ -1,7 +1,8 @@
 -- A board whose ranges are all acknowledged has a whole record.
-use Rattle.std.proofs.Common.{◌≡◌, ◌≢◌, ℕ, ◌<◌, ◌≤◌, inl, inr, Bool, true, false, not, List, Option, Some, None, refl, arith, sym, ap, subst, ◌∙◌}
+use Rattle.std.proofs.Common.{◌≡◌, ◌≢◌, ℕ, ◌<◌, ◌≤◌, inl, inr, Bool, true, false, not, length, List, Option, Some, None, refl, arith, sym, ap, subst, ◌∙◌}
 use Rattle.std.specs.Prelude.{IsSome, is_some, if◌then◌else◌}
 use Rattle.std.specs.Option.{ForSome}
+use Rattle.std.proofs.lemmas.List.{get_or-map, length-map}
 use Rattle.qh_plan.specs.declared.verdict.Verdict.{Verdict}
 use Rattle.qh_plan.specs.Jobs.{Job, IsJob, ranges}
 use Rattle.qh_plan.specs.Verdicts.{total}
@@ -11,10 +12,12 @@ use Rattle.qh_disk.specs.Moments.{EachImage}
 use Rattle.qh_slots.specs.Stands.{Slots, slot_at, Stands, Holds}
 use Rattle.qh_record.specs.Record.{Extends, IsFull}
 use Rattle.qh_record.specs.Moments.{GoesOn}
-use Rattle.qh_journal.specs.Calls.{IsJournal}
+use Rattle.qh_journal.specs.Calls.{JournalView, IsJournal, Went}
 use Rattle.qh_lease.specs.Lease.{lease_at, is_acked, NonePasses}
 use Rattle.qh_replay.specs.Replay.{is_open, is_begun}
-use Rattle.qh_board.specs.Board.{BoardView, begun, BeganWith, IsBoard}
+use Rattle.qh_board.specs.Board.{BoardView, begun, BeganWith, IsBoard, Serves, lease_for, started}
+use Rattle.qh_board.proofs.DeliverLemmas.{extends_same}
+use Rattle.qh_board.proofs.DiskLemmas.{serves_same}
 use Rattle.qh_run.specs.Carrying.{Completes}
 use Rattle.qh_meaning.specs.Slots.{over_or}
 use Rattle.qh_slots.specs.Stands.{AllFit}
@@ -61,3 +64,28 @@ module _ {D T : Type 0} (face : D → Face) (b : BoardView D T) (s0 : Slots) (bo
   -- over with its path, or with its sums
   pub over_or_is : IsJob b.job → IsJournal face b.journal → total b.job (slot_at b.journal.table) ≡ over_or b.total.over b.total.sums
   over_or_is valid journal = (whole_total b.job b.journal.table b.total valid (subst (λ j. AllFit j b.journal.table) board.one_job journal.fits) board.total).total
+
+-- ---- the journal with which a run begins
+-- its disk reads as it, also where no call was made
+pub journal_goes_on : {D : Type 0} (face : D → Face) (k : JournalView D) (j : Job) (disk : Option D) → k.job ≡ j → k.failed ≡ false → IsJournal face k → disk ≡ k.disk
+    → ForSome disk (λ e. Reads (face e) (GoesOn j k.table))
+journal_goes_on face k j disk job whole is same d at f told = record {
+  slots = k.table;
+  stands = subst (λ i. Stands i k.table f) job (is.reads whole d (sym same ∙ at) f told);
+  extends = extends_same j k.table;
+}
+
+pub disk_still : {D : Type 0} (face : D → Face) (loans : D → List ℕ) (j : Job) (old new : Option D) → new ≡ old → Went (Serves face loans j) old new
+disk_still face loans j old new same = subst (Went (Serves face loans j) old) (sym same) (serves_same face loans j old)
+
+-- where none of its slots is missing, no range is open
+pub full_started : (j : Job) (table : Slots) → length table ≡ ranges j → IsFull j table → NonePasses is_open 0 (started table).leases
+full_started j table count full r low below =
+    ap is_open (get_or-map lease_for table r None) ∙ by (slot_at table r) (full r (subst (λ n. r < n) (length-map table lease_for ∙ count) below))
+  where
+    by : (o : Option Verdict) → IsSome o → is_open (lease_for o) ≡ false
+    by None some = absurd (wrong some)
+      where
+        wrong : false ≡ true → ⊥
+        wrong e = cc
+    by (Some v) some = refl

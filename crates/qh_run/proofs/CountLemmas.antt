@@ -4,13 +4,14 @@ use Rattle.std.specs.Prelude.{is_none}
 use Rattle.std.specs.List.{count_by, range_with_len}
 use Rattle.std.proofs.Math.Path.{ap₂}
 use Rattle.std.proofs.lemmas.Bool.{cases_eq, cases_lt}
+use Rattle.std.proofs.lemmas.List.{length-set}
 use Rattle.std.proofs.lemmas.List.Sums.{sum_by-cons, sum_by-set}
 use Rattle.qh_plan.specs.declared.verdict.Verdict.{Verdict}
 use Rattle.qh_plan.specs.Jobs.{Job, ranges}
 use Rattle.qh_slots.specs.Stands.{Slots, slot_at}
 use Rattle.qh_record.specs.Record.{count_bare}
 use Rattle.qh_lease.specs.declared.lease.Lease.{Lease}
-use Rattle.qh_lease.specs.declared.lease.Lease.TheVariants.{Fresh, Acked}
+use Rattle.qh_lease.specs.declared.lease.Lease.TheVariants.{Fresh, Out, Acked}
 use Rattle.qh_lease.specs.Lease.{lease_at, is_fresh, NonePasses, IsLowest}
 use Rattle.qh_replay.specs.Replay.{is_open}
 use Rattle.qh_board.specs.Board.{lease_for}
@@ -81,3 +82,17 @@ swept_all leases from before none r low below = elim (cases_lt r from) [
   | inl early ↦ before r early
   | inr late ↦ none r late below
 ]
+
+-- a range that is granted and then acknowledged: at most one range less is fresh
+pub fresh_turn : (leases mid new : List Lease) (r attempt : ℕ) → r < length leases → mid ≡ set leases r (Out attempt) → new ≡ set mid r Acked
+    → count_by is_fresh leases ≤ count_by is_fresh new + 1
+fresh_turn leases mid new r attempt below granted acked =
+    let less = count_less is_fresh leases r (Out attempt) below in
+    let out : lease_at mid r ≡ Out attempt = ap (λ (l : List Lease). lease_at l r) granted ∙ get_or-set_same leases r (Out attempt) Fresh below in
+    let inside : r < length mid = subst (λ n. r < n) (sym (ap (length {A = Lease}) granted ∙ length-set leases r (Out attempt))) below in
+    let same : count_by is_fresh new ≡ count_by is_fresh (set leases r (Out attempt)) =
+    ap (count_by is_fresh) acked ∙ count_kept is_fresh mid r Acked inside (ap is_fresh out) refl ∙ ap (count_by is_fresh) granted in
+    by _ _ _ less same
+  where
+    by : (m n k : ℕ) → m ≤ n + 1 → k ≡ n → m ≤ k + 1
+    by m n k less same = omega arith

@@ -11,7 +11,8 @@ use Rattle.qh_disk.specs.Moments.{EachImage}
 use Rattle.qh_slots.specs.Stands.{Slots, slot_at, Stands, Holds}
 use Rattle.qh_record.specs.Record.{Extends, IsFull}
 use Rattle.qh_journal.specs.Calls.{Went}
-use Rattle.qh_lease.specs.Lease.{is_fresh}
+use Rattle.qh_lease.specs.Lease.{is_fresh, NonePasses}
+use Rattle.qh_replay.specs.Replay.{is_open}
 use Rattle.qh_board.specs.Board.{BoardView, begun, Serves}
 use Rattle.qh_board.specs.Claims.{SameTimer}
 use Rattle.qh_board.specs.Deliveries.{DiskRose}
@@ -20,13 +21,15 @@ use Rattle.qh_run.specs.declared.ended.RunEnd.TheVariants.{Sums, Over, Disk as E
 use Rattle.qh_run.specs.declared.stop.Stop.{Stop}
 use Rattle.qh_run.specs.declared.stop.Stop.TheVariants.{Disk, Memory}
 
--- The job stays, and so do the slots with which the run began; the disk is served; the same timer is lent.
+-- The job stays, and so do the slots with which the run began; the disk is served; the same timer is lent; where every range was acknowledged, the journal and
+-- the leases stay as they were.
 pub record Carries {D T : Type 0} (face : D → Face) (loans : D → List ℕ) (old new : BoardView D T) : Type 0 where
   pub job : new.job ≡ old.job
   pub count : length new.course.leases ≡ length old.course.leases
   pub begun : (range : ℕ) → begun new range ≡ begun old range
   pub disk : Went (Serves face loans old.job) old.journal.disk new.journal.disk
   pub timer : SameTimer old.timer new.timer
+  pub still : NonePasses is_open 0 old.course.leases → (new.journal ≡ old.journal) × (new.course.leases ≡ old.course.leases)
 
 -- how many ranges were never granted
 abbrev pub count_fresh : {D T : Type 0} → BoardView D T → ℕ

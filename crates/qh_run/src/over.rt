@@ -6,13 +6,12 @@ ghost use Rattle.qh_counts.specs.Counts.{RoseBy};
 ghost use Rattle.qh_plan.specs.Jobs.{IsJob, ranges};
 ghost use Rattle.qh_disk.specs.Disk.{Reads};
 ghost use Rattle.qh_slots.specs.Stands.{Slots};
-ghost use Rattle.qh_record.specs.Record.{count_bare};
+ghost use Rattle.qh_record.specs.Record.{count_bare, IsFull};
 ghost use Rattle.qh_record.specs.Moments.{GoesOn};
 ghost use Rattle.qh_journal.specs.Calls.{Went};
 ghost use Rattle.qh_lease.specs.Lease.{NonePasses};
 ghost use Rattle.qh_lease.specs.Tally.{nothing};
 ghost use Rattle.qh_replay.specs.Replay.{is_open};
-ghost use Rattle.qh_replay.specs.StandIn.{StandIn};
 ghost use Rattle.qh_board.specs.Board.{BeganWith, Serves};
 ghost use Rattle.qh_run.specs.Ends.{answer_of, IsBounded};
 ghost use Rattle.qh_run.specs.Carrying.{Carries, count_fresh, Completes, MayStop, MayLeave};
@@ -43,7 +42,6 @@ fn answer<D: Disk, T: Timer, N: Ledgers>(
     alloc: Global,
     board: &Board<'_, D, T, N>,
 ) -> Result<RunEnd, AllocError>
-    requires standin { StandIn }
     requires valid { IsJob board.now.job }
     requires running { board.now.course.fault ≡ None }
     requires all { NonePasses is_open 0 board.now.course.leases }
@@ -66,7 +64,6 @@ fn run_all<D: Disk, T: Timer, N: Ledgers, L: Ledger>(
     worker: &mut Worker<L>,
     share: &mut Share<N>,
 ) -> Result<RunEnd, Stop>
-    requires standin { StandIn }
     requires valid { IsJob board.old.job }
     requires same { worker.old ≡ board.old.job }
     requires running { board.old.course.fault ≡ None }
@@ -89,7 +86,6 @@ fn run_to_end<D: Disk, T: Timer, N: Ledgers, L: Ledger>(
     board: &mut Board<'_, D, T, N>,
     worker: &mut Worker<L>,
 ) -> RunEnd
-    requires standin { StandIn }
     requires valid { IsJob board.old.job }
     requires same { worker.old ≡ board.old.job }
     requires running { board.old.course.fault ≡ None }
@@ -121,7 +117,6 @@ fn run_by<D: Disk, T: Timer, N: Ledgers, L: Ledger>(
     tally: Tally<N>,
     steps: Steps<L>,
 ) -> Left<D>
-    requires standin { StandIn }
     requires job { journal.job ≡ arc_value job }
     requires whole { journal.failed ≡ false }
     requires out { tally.out ≡ 0 }
@@ -131,6 +126,7 @@ fn run_by<D: Disk, T: Timer, N: Ledgers, L: Ledger>(
     ensures bounded { IfSome (answer_of result.end) IsBounded }
     ensures cause { MayLeave D.face journal.disk result.disk result.end }
     ensures granted { IsSome (answer_of result.end) → RoseBy (count_bare (arc_value job) journal.table) (T.granted_count timer.old) (T.granted_count timer.new) }
+    ensures finished { IsFull (arc_value job) journal.table → result.disk ≡ journal.disk }
     ensures disk { Went (Serves D.face D.loans (arc_value job)) journal.disk result.disk }
     ensures goes_on { ForSome result.disk (λ e. Reads (D.face e) (GoesOn (arc_value job) journal.table)) }
 {

@@ -5,7 +5,6 @@ ghost use Rattle.qh_plan.specs.Jobs.{ranges};
 ghost use Rattle.qh_lease.specs.Lease.{lease_at, is_fresh, NonePasses};
 ghost use Rattle.qh_lease.specs.declared.lease.Lease.TheVariants as Leases;
 ghost use Rattle.qh_replay.specs.Replay.{is_open};
-ghost use Rattle.qh_replay.specs.StandIn.{StandIn};
 ghost use Rattle.qh_run.specs.Carrying.{Carries, count_fresh, Turned, MayStop};
 
 use crate::stop::Stop;
@@ -23,9 +22,9 @@ fn work_on<D: Disk, T: Timer, N: Ledgers, L: Ledger>(
     ticket: Ticket,
     share: &mut Share<N>,
 ) -> Result<(), Stop>
-    requires standin { StandIn }
     requires same { worker.old ≡ board.old.job }
     requires running { board.old.course.fault ≡ None }
+    requires count { length board.old.course.leases ≡ ranges board.old.job }
     requires known { ticket.range < ranges board.old.job }
     ensures carries { Carries D.face D.loans board.old board.new }
     ensures worker { worker.new ≡ worker.old }
@@ -53,7 +52,6 @@ fn turn<D: Disk, T: Timer, N: Ledgers, L: Ledger>(
     worker: &mut Worker<L>,
     share: &mut Share<N>,
 ) -> Result<bool, Stop>
-    requires standin { StandIn }
     requires same { worker.old ≡ board.old.job }
     requires running { board.old.course.fault ≡ None }
     requires count { length board.old.course.leases ≡ ranges board.old.job }
@@ -79,7 +77,6 @@ pub(crate) fn take_turns<D: Disk, T: Timer, N: Ledgers, L: Ledger>(
     worker: &mut Worker<L>,
     share: &mut Share<N>,
 ) -> Result<(), Stop>
-    requires standin { StandIn }
     requires same { worker.old ≡ board.old.job }
     requires running { board.old.course.fault ≡ None }
     requires count { length board.old.course.leases ≡ ranges board.old.job }
@@ -103,7 +100,6 @@ pub(crate) fn sweep<D: Disk, T: Timer, N: Ledgers, L: Ledger>(
     worker: &mut Worker<L>,
     share: &mut Share<N>,
 ) -> Result<(), Stop>
-    requires standin { StandIn }
     requires same { worker.old ≡ board.old.job }
     requires running { board.old.course.fault ≡ None }
     requires count { length board.old.course.leases ≡ ranges board.old.job }

@@ -1,0 +1,35 @@
+use Rattle.std.proofs.Common.{◌≡◌, ℕ, List, length, sym, ap, subst, ◌∙◌}
+use Rattle.std.specs.Arc.{arc_value}
+use Rattle.qh_counts.specs.Counts.{RoseBy}
+use Rattle.qh_plan.specs.Jobs.{Job, ranges}
+use Rattle.qh_lease.specs.Lease.{NonePasses}
+use Rattle.qh_replay.specs.Replay.{CourseView, is_open}
+use Rattle.qh_run.proofs.CountLemmas.{bare_fresh}
+use Rattle.qh_run.proofs.CompleteLemmas.{journal_goes_on, disk_still, full_started}
+use Rattle.qh_run.proofs.over.run_by.Goals as goal
+
+pub returns-in_default-clause-disk : goal.returns-in_default-clause-disk
+returns-in_default-clause-disk g c = disk_still g.D.Disk.face g.D.Disk.loans (arc_value c.args.job) c.args.journal.disk c.into_disk.result c.into_disk.ensures
+
+pub returns-in_default-clause-goes_on : goal.returns-in_default-clause-goes_on
+returns-in_default-clause-goes_on g c =
+    journal_goes_on g.D.Disk.face c.args.journal (arc_value c.args.job) c.into_disk.result c.requires.job c.requires.whole c.failed.ensures.valid c.into_disk.ensures
+
+pub returns-in-Err-clause-disk : goal.returns-in-Err-clause-disk
+returns-in-Err-clause-disk g c = disk_still g.D.Disk.face g.D.Disk.loans (arc_value c.args.job) c.args.journal.disk c.in-Err.unmade.disk c.in-Err.ensures.back
+
+pub returns-in-Err-clause-goes_on : goal.returns-in-Err-clause-goes_on
+returns-in-Err-clause-goes_on g c =
+    journal_goes_on g.D.Disk.face c.args.journal (arc_value c.args.job) c.in-Err.unmade.disk c.requires.job c.requires.whole c.failed.ensures.valid c.in-Err.ensures.back
+
+pub returns-clause-granted : goal.returns-clause-granted
+returns-clause-granted g c some = let h = c in ?
+
+pub returns-clause-finished : goal.returns-clause-finished
+returns-clause-finished g c full =
+    let j = arc_value c.args.job in
+    let table = c.args.journal.table in
+    let board = c.in-Ok-attach.board in
+    let count : length table ≡ ranges j = c.failed.ensures.valid.count ∙ ap ranges c.requires.job in
+    let none : NonePasses is_open 0 board.course.leases = subst (λ (course : CourseView). NonePasses is_open 0 course.leases) (sym c.in-Ok-attach.ensures.course) (full_started j table count full) in
+    c.part-disk.ensures.disk ∙ ap (λ k. k.disk) (c.run_to_end-end.ensures.carries.still none).0 ∙ ap (λ k. k.disk) c.in-Ok-attach.ensures.journal
