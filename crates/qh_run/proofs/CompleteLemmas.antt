@@ -18,7 +18,9 @@ use Rattle.qh_replay.specs.Replay.{is_open, is_begun}
 use Rattle.qh_board.specs.Board.{BoardView, begun, BeganWith, IsBoard, Serves, lease_for, started}
 use Rattle.qh_board.proofs.DeliverLemmas.{extends_same}
 use Rattle.qh_board.proofs.DiskLemmas.{serves_same}
-use Rattle.qh_run.specs.Carrying.{Completes}
+use Rattle.qh_lease.specs.Tally.{Count}
+use Rattle.qh_lease.specs.declared.lease.Lease.TheVariants.{Fresh}
+use Rattle.qh_run.specs.Carrying.{Carries, Completes}
 use Rattle.qh_meaning.specs.Slots.{over_or}
 use Rattle.qh_slots.specs.Stands.{AllFit}
 use Rattle.qh_totals.proofs.RunningLemmas.{whole_total}
@@ -81,7 +83,7 @@ disk_still face loans j old new same = subst (Went (Serves face loans j) old) (s
 -- where none of its slots is missing, no range is open
 pub full_started : (j : Job) (table : Slots) → length table ≡ ranges j → IsFull j table → NonePasses is_open 0 (started table).leases
 full_started j table count full r low below =
-    ap is_open (get_or-map lease_for table r None) ∙ by (slot_at table r) (full r (subst (λ n. r < n) (length-map table lease_for ∙ count) below))
+    ap is_open (get_or-map lease_for table r None Fresh (subst (λ n. r < n) (length-map table lease_for) below)) ∙ by (slot_at table r) (full r (subst (λ n. r < n) (length-map table lease_for ∙ count) below))
   where
     by : (o : Option Verdict) → IsSome o → is_open (lease_for o) ≡ false
     by None some = absurd (wrong some)
@@ -89,3 +91,10 @@ full_started j table count full r low below =
         wrong : false ≡ true → ⊥
         wrong e = cc
     by (Some v) some = refl
+
+-- ---- the slots that a run began with, as it goes on
+pub began_on : {D T : Type 0} (face : D → Face) (loans : D → List ℕ) (old new : BoardView D T) (s0 : Slots) → Carries face loans old new → BeganWith old s0 → BeganWith new s0
+began_on face loans old new s0 carries began = record { each = λ r. began.each r ∙ sym (carries.begun r) }
+
+pub began_tally : {D T : Type 0} (old new : BoardView D T) (tally : Count) (s0 : Slots) → new ≡ record old { tally = tally } → BeganWith old s0 → BeganWith new s0
+began_tally old new tally s0 same began = record { each = λ r. began.each r ∙ sym (ap (λ b. begun b r) same) }

@@ -1,5 +1,12 @@
 use Rattle.std.proofs.Common.{◌≡◌, ℕ, List, length, sym, ap, subst, ◌∙◌}
+use Rattle.std.specs.Prelude.{IfSome, Option}
+use Rattle.std.specs.Option.{ForSome}
 use Rattle.std.specs.Arc.{arc_value}
+use Rattle.qh_disk.specs.Disk.{Reads}
+use Rattle.qh_record.specs.Moments.{GoesOn}
+use Rattle.qh_board.specs.Board.{BeganWith}
+use Rattle.qh_run.specs.Ends.{answer_of}
+use Rattle.qh_run.specs.Carrying.{Completes}
 use Rattle.qh_counts.specs.Counts.{RoseBy}
 use Rattle.qh_plan.specs.Jobs.{Job, ranges}
 use Rattle.qh_lease.specs.Lease.{NonePasses}
@@ -23,7 +30,25 @@ returns-in-Err-clause-goes_on g c =
     journal_goes_on g.D.Disk.face c.args.journal (arc_value c.args.job) c.in-Err.unmade.disk c.requires.job c.requires.whole c.failed.ensures.valid c.in-Err.ensures.back
 
 pub returns-clause-granted : goal.returns-clause-granted
-returns-clause-granted g c some = let h = c in ?
+returns-clause-granted g c some = let h = c.timer-2-1 in ?
+
+pub returns-clause-whole : goal.returns-clause-whole
+returns-clause-whole g c =
+    let j = arc_value c.args.job in
+    let table = c.args.journal.table in
+    let board = c.in-Ok-attach.board in
+    let began : BeganWith board table = record { each = λ r. sym (c.in-Ok-attach.ensures.begun r) } in
+    let ends = answer_of c.run_to_end-end.result in
+    subst (λ (disk : Option g.row.D.Denot). IfSome ends (Completes g.D.Disk.face j table disk)) (sym c.part-disk.ensures.disk)
+    (subst (λ (i : Job). IfSome ends (Completes g.D.Disk.face i table c.run_to_end-end.new.board.journal.disk)) c.in-Ok-attach.ensures.job (c.run_to_end-end.ensures.whole table began))
+
+pub returns-clause-goes_on : goal.returns-clause-goes_on
+returns-clause-goes_on g c =
+    let table = c.args.journal.table in
+    let board = c.in-Ok-attach.board in
+    let began : BeganWith board table = record { each = λ r. sym (c.in-Ok-attach.ensures.begun r) } in
+    subst (λ (disk : Option g.row.D.Denot). ForSome disk (λ e. Reads (g.D.Disk.face e) (GoesOn (arc_value c.args.job) table))) (sym c.part-disk.ensures.disk)
+    (subst (λ (i : Job). ForSome c.run_to_end-end.new.board.journal.disk (λ e. Reads (g.D.Disk.face e) (GoesOn i table))) c.in-Ok-attach.ensures.job (c.run_to_end-end.ensures.goes_on table began))
 
 pub returns-clause-finished : goal.returns-clause-finished
 returns-clause-finished g c full =
