@@ -3,13 +3,13 @@ use Rattle.std.proofs.Common.{◌≡◌, ◌<◌, inl, inr, ℕ, ◌+◌, ◌-�
 use Rattle.std.proofs.lemmas.Bool.{cases_eq, cases_lt}
 use Rattle.std.proofs.lemmas.List.{places, ext_get_or, get_or_past, get_or-take, get_or-replicate, get_or-drop, length-drop, length-take, length-replicate, length-set, get_or-set_same, get_or-set_other}
 use Rattle.qh_plan.specs.declared.verdict.Verdict.{Verdict}
-use Rattle.qh_plan.specs.Jobs.{Job, IsJob, ranges}
+use Rattle.qh_plan.specs.Jobs.{Job, ranges}
 use Rattle.qh_plan.specs.Ranges.{Fits}
 use Rattle.qh_disk.specs.Disk.{Face, IsSafe, Reads, Becomes, overwritten, resized, Torn, Stretched, Turns, Calls}
 use Rattle.qh_disk.specs.Moments.{EachImage, EachImageSince, Runs, Lasts}
 use Rattle.qh_disk.specs.Looks.{Looks}
 use Rattle.qh_disk.specs.declared.failed.Failed.{Failed}
-use Rattle.qh_disk.proofs.Moments.{runs_same, lasts_same, each_since_same, lasts_call, lasts_on, runs_call, runs_on, turns_keeps, safe_each, each_since_call, each_since_on}
+use Rattle.qh_disk.proofs.Moments.{lasts_call, lasts_on, runs_call, runs_on, turns_keeps, safe_each, each_since_call, each_since_on}
 use Rattle.qh_disk.proofs.Looking.{narrows_lasts, narrows_since, lasts_absurd}
 use Rattle.qh_disk.proofs.Rules.{told_before, resized_length, resized_beyond, overwritten_inside, overwritten_torn}
 use Rattle.qh_slots.specs.Layout.{mark, head, place, part, slot_size, body_size}

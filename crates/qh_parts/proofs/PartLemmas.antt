@@ -1,5 +1,5 @@
 -- What the writes of a store do to a disk.
-use Rattle.std.proofs.Common.{◌≢◌, ◌≡◌, ◌<◌, ◌⊎◌, ℕ, ◌+◌, ◌*◌, ◌≤◌, List, [], ◌∷◌, length, replicate, set, get_or, Some, Result, Ok, Err, sym, ap, subst, ◌∙◌, arith}
+use Rattle.std.proofs.Common.{◌≢◌, ◌≡◌, ◌<◌, ◌⊎◌, ℕ, ◌+◌, ◌≤◌, List, [], ◌∷◌, length, set, get_or, Some, Result, Ok, Err, sym, ap, subst, ◌∙◌, arith}
 use Rattle.std.proofs.lemmas.List.{places, ext_get_or}
 use Rattle.std.specs.Prelude.{OnOk}
 use Rattle.qh_plan.specs.declared.verdict.Verdict.{Verdict}

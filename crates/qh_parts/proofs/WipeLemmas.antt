@@ -4,7 +4,7 @@ use Rattle.std.proofs.lemmas.Bool.{cases_eq, cases_lt}
 use Rattle.std.proofs.lemmas.List.{ext_get_or, get_or_past}
 use Rattle.qh_plan.specs.Jobs.{Job}
 use Rattle.qh_disk.specs.Disk.{Face, IsImage, IsSafe, Reads, Becomes, overwritten, resized, Torn, Stretched, Turns, Calls}
-use Rattle.qh_disk.specs.Moments.{EachImage, EachImageSince, Lasts}
+use Rattle.qh_disk.specs.Moments.{EachImage}
 use Rattle.qh_disk.specs.Looks.{Looks}
 use Rattle.qh_disk.specs.declared.failed.Failed.{Failed}
 use Rattle.qh_disk.proofs.Moments.{lasts_call, lasts_on, runs_call, runs_on, turns_keeps, safe_each, since_new, each_since_call, each_since_on}

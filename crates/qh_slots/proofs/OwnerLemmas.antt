@@ -17,11 +17,10 @@ use Rattle.qh_gates.proofs.KindLemmas.{each_kind}
 use Rattle.qh_circuit.specs.Spelling.{spaced_number, second_text, gate_text, gate_line, circuit_text}
 use Rattle.qh_text.specs.Bitstrings.{bits_text}
 use Rattle.qh_text.proofs.BitLemmas.{bits_length}
-use Rattle.qh_plan.specs.Jobs.{Job, IsJob, ranges}
+use Rattle.qh_plan.specs.Jobs.{Job, IsJob}
 use Rattle.qh_plan.specs.Texts.{word, words, prefix_text, bits_line, gates_text, asked_text, job_text}
-use Rattle.qh_plan.proofs.OneTextLemmas.{IsWritten, written, one_job}
+use Rattle.qh_plan.proofs.OneTextLemmas.{written, one_job}
 use Rattle.qh_slots.specs.Layout.{head, part}
-use Rattle.qh_slots.specs.Stands.{Slots, Stands}
 use Rattle.qh_slots.specs.Laws.{OneOwnerLaw}
 use Rattle.qh_slots.proofs.ReadLemmas.{one_path}
 use Rattle.qh_slots.proofs.StandLemmas.{head_size, part_taken}

@@ -3,7 +3,7 @@ use Rattle.qh_disk.specs.Disk.{IsSafe}
 use Rattle.qh_disk.specs.Moments.{EachImage}
 use Rattle.qh_disk.proofs.Moments.{safe_each}
 use Rattle.qh_disk.proofs.Looking.{looks_reads}
-use Rattle.qh_slots.specs.Stands.{Slots, Stands, Holds}
+use Rattle.qh_slots.specs.Stands.{Stands, Holds}
 use Rattle.qh_parts.specs.Groups.{StandsPartly, filled, range_of, member_of}
 use Rattle.qh_parts.proofs.PartLemmas.{on_ok, on_always, spares_on, spares_looks, made_on, made_looks, goes_on, goes_looks}
 use Rattle.qh_parts.proofs.group.keep_gates.Goals as goal
