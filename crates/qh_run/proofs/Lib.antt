@@ -3,3 +3,4 @@ pub mod RecordLemmas
 pub mod CountLemmas
 pub mod CarryLemmas
 pub mod CompleteLemmas
+pub mod KeptLemmas

@@ -2,3 +2,4 @@
 pub mod Ends
 pub mod Workers
 pub mod Carrying
+pub mod Opened

@@ -10,6 +10,7 @@ ghost use Rattle.qh_record.specs.Record.{count_bare, IsFull};
 ghost use Rattle.qh_record.specs.Moments.{GoesOn};
 ghost use Rattle.qh_journal.specs.Calls.{Went};
 ghost use Rattle.qh_lease.specs.Lease.{NonePasses};
+ghost use Rattle.qh_lease.specs.Register.{IsBlankOf};
 ghost use Rattle.qh_lease.specs.Tally.{nothing};
 ghost use Rattle.qh_replay.specs.Replay.{is_open};
 ghost use Rattle.qh_board.specs.Board.{BeganWith, Serves};
@@ -23,12 +24,13 @@ use crate::worker::Worker;
 use qh_board::Board;
 use qh_disk::Disk;
 use qh_journal::Journal;
-use qh_lease::{LEDGER_PARTS, Ledgers, Share, Tally, Timer};
+use qh_lease::{Counted, LEDGER_PARTS, Ledgers, Share, Tally, Three, Timer};
 use qh_plan::Job;
 use qh_steps::Steps;
 use std::alloc::{AllocError, Global};
+use std::marker::Brand;
 use std::sync::Arc;
-use std::sync::ledger::Ledger;
+use std::sync::ledger::{Blank, Ledger};
 
 /// What a run over a journal leaves: the journal's disk, where it is kept on one, and how the run ended.
 #[derive(Drop)]
@@ -150,4 +152,59 @@ fn run_by<D: Disk, T: Timer, N: Ledgers, L: Ledger>(
     let end = run_to_end(alloc, &mut board, &mut worker);
     let (disk, _timer) = board.part();
     Left { disk, end }
+}
+
+/// The same over ledgers that are blank: three for the tally, and one for the steps.
+fn run_over<D: Disk, T: Timer, G: Counted, B: Counted, A: Counted, L: Ledger>(
+    alloc: Global,
+    journal: Journal<D>,
+    job: Arc<Job>,
+    timer: &mut T,
+    blanks: (Blank, Blank, Blank),
+    steps: Blank,
+) -> Left<D>
+    requires job { journal.job ≡ arc_value job }
+    requires whole { journal.failed ≡ false }
+    requires grants { IsBlankOf blanks.0.name blanks.0.parts G.name G.parts }
+    requires backs { IsBlankOf blanks.1.name blanks.1.parts B.name B.parts }
+    requires acks { IsBlankOf blanks.2.name blanks.2.parts A.name A.parts }
+    requires steps_name { steps.name ≡ L.name }
+    requires steps_parts { steps.parts ≡ L.parts }
+    requires steps_some { 0 < steps.parts }
+    ensures whole { IfSome (answer_of result.end) (Completes D.face (arc_value job) journal.table result.disk) }
+    ensures bounded { IfSome (answer_of result.end) IsBounded }
+    ensures cause { MayLeave D.face journal.disk result.disk result.end }
+    ensures granted { IsSome (answer_of result.end) → RoseBy (count_bare (arc_value job) journal.table) (T.granted_count timer.old) (T.granted_count timer.new) }
+    ensures finished { IsFull (arc_value job) journal.table → result.disk ≡ journal.disk }
+    ensures disk { Went (Serves D.face D.loans (arc_value job)) journal.disk result.disk }
+    ensures goes_on { ForSome result.disk (λ e. Reads (D.face e) (GoesOn (arc_value job) journal.table)) }
+{
+    let (grants, backs, acks) = blanks;
+    let tally = Tally::<Three<G, B, A>>::new(grants, backs, acks);
+    run_by(alloc, journal, job, timer, tally, Steps::<L>::new(steps))
+}
+
+/// Runs the job of a journal to its end, or until the disk fails or memory lacks.
+pub(crate) fn run_journal<D: Disk, T: Timer>(
+    alloc: Global,
+    journal: Journal<D>,
+    job: Arc<Job>,
+    timer: &mut T,
+) -> Left<D>
+    requires job { journal.job ≡ arc_value job }
+    requires whole { journal.failed ≡ false }
+    ensures whole { IfSome (answer_of result.end) (Completes D.face (arc_value job) journal.table result.disk) }
+    ensures bounded { IfSome (answer_of result.end) IsBounded }
+    ensures cause { MayLeave D.face journal.disk result.disk result.end }
+    ensures granted { IsSome (answer_of result.end) → RoseBy (count_bare (arc_value job) journal.table) (T.granted_count timer.old) (T.granted_count timer.new) }
+    ensures finished { IsFull (arc_value job) journal.table → result.disk ≡ journal.disk }
+    ensures disk { Went (Serves D.face D.loans (arc_value job)) journal.disk result.disk }
+    ensures goes_on { ForSome result.disk (λ e. Reads (D.face e) (GoesOn (arc_value job) journal.table)) }
+{
+    let blanks = (
+        Blank::new(LEDGER_PARTS),
+        Blank::new(LEDGER_PARTS),
+        Blank::new(LEDGER_PARTS),
+    );
+    run_over::<D, T, Brand, Brand, Brand, Brand>(alloc, journal, job, timer, blanks, Blank::new(1))
 }

@@ -1,4 +1,4 @@
-use Rattle.std.proofs.Common.{◌≡◌, ℕ, List, length, sym, ap, subst, ◌∙◌}
+use Rattle.std.proofs.Common.{rules, MutBor, ◌≡◌, ℕ, List, length, sym, ap, subst, ◌∙◌}
 use Rattle.std.specs.Prelude.{IfSome, Option}
 use Rattle.std.specs.Option.{ForSome}
 use Rattle.std.specs.Arc.{arc_value}
@@ -9,7 +9,10 @@ use Rattle.qh_run.specs.Ends.{answer_of}
 use Rattle.qh_run.specs.Carrying.{Completes}
 use Rattle.qh_counts.specs.Counts.{RoseBy}
 use Rattle.qh_plan.specs.Jobs.{Job, ranges}
-use Rattle.qh_lease.specs.Lease.{NonePasses}
+use Rattle.std.specs.List.{count_by}
+use Rattle.qh_record.specs.Record.{count_bare}
+use Rattle.qh_lease.specs.Lease.{is_fresh, NonePasses}
+use Rattle.qh_run.specs.Carrying.{count_fresh}
 use Rattle.qh_replay.specs.Replay.{CourseView, is_open}
 use Rattle.qh_run.proofs.CountLemmas.{bare_fresh}
 use Rattle.qh_run.proofs.CompleteLemmas.{journal_goes_on, disk_still, full_started}
@@ -30,7 +33,19 @@ returns-in-Err-clause-goes_on g c =
     journal_goes_on g.D.Disk.face c.args.journal (arc_value c.args.job) c.in-Err.unmade.disk c.requires.job c.requires.whole c.failed.ensures.valid c.in-Err.ensures.back
 
 pub returns-clause-granted : goal.returns-clause-granted
-returns-clause-granted g c some = let h = c.timer-2-1 in ?
+returns-clause-granted g c some =
+    let told = g.T.Timer.granted_count in
+    let j = arc_value c.args.job in
+    let table = c.args.journal.table in
+    let board = c.in-Ok-attach.board in
+    let after = c.run_to_end-end.new.board in
+    let count : length table ≡ ranges j = c.failed.ensures.valid.count ∙ ap ranges c.requires.job in
+    let fresh : count_bare j table ≡ count_fresh board =
+    bare_fresh j table count ∙ sym (ap (λ (course : CourseView). count_by is_fresh course.leases) c.in-Ok-attach.ensures.course) in
+    let start : told board.timer.now ≡ told c.args.timer.now = ap (λ (m : MutBor g.row.T.Denot). told m.now) c.in-Ok-attach.ensures.timer in
+    let rose : RoseBy (count_bare j table) (told c.args.timer.now) (told after.timer.now) =
+    subst (λ n. RoseBy n (told c.args.timer.now) (told after.timer.now)) (sym fresh) (subst (λ n. RoseBy (count_fresh board) n (told after.timer.now)) start (c.run_to_end-end.ensures.granted some)) in
+    first_of (search (rules, rose), ?)
 
 pub returns-clause-whole : goal.returns-clause-whole
 returns-clause-whole g c =

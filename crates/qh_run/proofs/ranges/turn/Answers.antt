@@ -31,7 +31,8 @@ returns-in_ok-work_on-in-Granted-clause-turned g c =
     let t = c.in-Granted.ticket in
     let old = c.args.board.now in
     let granted = c.in-Granted.ensures.does in
-    let known = next_known g.T.Timer.due_count g.T.Timer.not_due_count old.course.leases old.timer.now c.claim.new.self.timer.now t.range c.in-Granted.ensures.comes.1 in
-    (subst (λ n. Rose (g.T.Timer.granted_count old.timer.now) n) (sym (ap (λ (m : MutBor g.row.T.Denot). g.T.Timer.granted_count m.now) c.work_on.ensures.timer)) granted.told,
+    let known = next_known g.T.Timer.due_count g.T.Timer.not_due_count old.course.leases old.timer.now c.claim.new.self.timer.now t.range c.in-Granted.ensures.comes.1 in (
+      subst (λ n. Rose (g.T.Timer.granted_count old.timer.now) n) (sym (ap (λ (m : MutBor g.row.T.Denot). g.T.Timer.granted_count m.now) c.work_on.ensures.timer)) granted.told,
       fresh_turn old.course.leases c.claim.new.self.course.leases c.work_on.new.board.course.leases t.range t.attempt known.0
-          (ap (λ b. b.course.leases) granted.board) c.in_ok-work_on-in-Granted.ensures.acked)
+          (ap (λ b. b.course.leases) granted.board) c.in_ok-work_on-in-Granted.ensures.acked,
+    )
