@@ -8,7 +8,8 @@ use Rattle.std.proofs.lemmas.List.{length-set}
 use Rattle.std.proofs.lemmas.List.Sums.{sum_by-cons, sum_by-set}
 use Rattle.qh_plan.specs.declared.verdict.Verdict.{Verdict}
 use Rattle.qh_plan.specs.Jobs.{Job, ranges}
-use Rattle.qh_slots.specs.Stands.{Slots, slot_at}
+use Rattle.qh_slots.specs.Stands.{Slots, slot_at, nones}
+use Rattle.qh_parts.proofs.LayLemmas.{none_at}
 use Rattle.qh_record.specs.Record.{count_bare}
 use Rattle.qh_lease.specs.declared.lease.Lease.{Lease}
 use Rattle.qh_lease.specs.declared.lease.Lease.TheVariants.{Fresh, Out, Acked}
@@ -96,3 +97,14 @@ fresh_turn leases mid new r attempt below granted acked =
   where
     by : (m n k : ℕ) → m ≤ n + 1 → k ≡ n → m ≤ k + 1
     by m n k less same = omega arith
+
+-- where there is no slot, each range is bare
+count_all : (p : ℕ → Bool) (a n : ℕ) → ((r : ℕ) → p r ≡ true) → count_by p (range_with_len a n) ≡ n
+count_all p a zero all = refl
+count_all p a (suc n) all = count_cons p a (range_with_len (a + 1) n) ∙ ap₂ (λ b m. cond b 1 0 + m) (all a) (count_all p (a + 1) n all) ∙ one_more n
+  where
+    one_more : (n : ℕ) → 1 + n ≡ suc n
+    one_more n = omega arith
+
+pub bare_nones : (j : Job) → count_bare j (nones j) ≡ ranges j
+bare_nones j = count_all (λ r. is_none (slot_at (nones j) r)) 0 (ranges j) (λ r. ap is_none (none_at j r))

@@ -14,14 +14,17 @@ use Rattle.qh_slots.specs.Attaching.{slots_of}
 use Rattle.qh_slots.specs.declared.fault.AttachFault.{AttachFault}
 use Rattle.qh_slots.proofs.StandLemmas.{one_map}
 use Rattle.qh_record.specs.Record.{Keeping, slots_before, slots_after, Extends, IsFull, IsEnd, IfTold, count_bare}
-use Rattle.qh_record.specs.Moments.{BeginsTrue}
+use Rattle.qh_record.specs.Moments.{BeginsTrue, GoesOn, IsUnwritten}
 use Rattle.qh_record.specs.Keeps.{KeepsJournal, IsWhole}
 use Rattle.qh_record.specs.Refusing.{RefusesJournal, RefusesOld, Accepts}
 use Rattle.qh_migrate.specs.Faults.{attach_of}
 use Rattle.qh_open.specs.declared.fault.OpenFault.{OpenFault}
 use Rattle.qh_open.specs.declared.fault.OpenFault.TheVariants as fault
 use Rattle.qh_open.specs.Opening.{Opened, Opens, OpenMayFail, keeping}
-use Rattle.qh_open.proofs.OptionLemmas.{some_from, some_to, some_map, map_has, is_some_has}
+use Rattle.qh_open.proofs.OptionLemmas.{some_from, some_to, some_map, map_has, is_some_has, one_value}
+use Rattle.qh_open.proofs.MomentLemmas.{unwritten_same}
+use Rattle.qh_journal.specs.Calls.{Went}
+use Rattle.qh_board.specs.Board.{Serves}
 use Rattle.qh_open.proofs.RunLemmas.{keeps_on}
 use Rattle.qh_open.proofs.AnswerLemmas.{IsOldRefused, refused_told, old_refused_told, accepted_told}
 use Rattle.qh_run.specs.declared.ended.RunEnd.{RunEnd}
@@ -155,16 +158,47 @@ unopened_complete fresh taking j old was disk after stop end is may quiet old_qu
 }
 
 -- ---- there is none
-pub unkept_ends : {D : Type 0} (face : D → Face) (disk : Option D) (end : RunEnd) → MayLeave face None disk end → IsSome (answer_of end) ⊎ (end ≡ Memory)
-unkept_ends face disk (Sums sums) cause = inl refl
-unkept_ends face disk (Over path) cause = inl refl
-unkept_ends face disk Disk cause = absurd cause
-unkept_ends face disk OldDisk cause = absurd cause
-unkept_ends face disk (Refused why) cause = absurd cause
-unkept_ends face disk (OldRefused why) cause = absurd cause
-unkept_ends face disk Memory cause = inr refl
+none_ends : {D : Type 0} (face : D → Face) (disk : Option D) (end : RunEnd) → MayLeave face None disk end → IsSome (answer_of end) ⊎ (end ≡ Memory)
+none_ends face disk (Sums sums) cause = inl refl
+none_ends face disk (Over path) cause = inl refl
+none_ends face disk Disk cause = absurd cause
+none_ends face disk OldDisk cause = absurd cause
+none_ends face disk (Refused why) cause = absurd cause
+none_ends face disk (OldRefused why) cause = absurd cause
+none_ends face disk Memory cause = inr refl
 
-pub unkept_whole : {D : Type 0} (face : D → Face) (j : Job) (disk : Option D) (end : RunEnd) → IfSome (answer_of end) (Completes face j (nones j) disk)
+pub unkept_ends : {D : Type 0} (face : D → Face) (before disk : Option D) (end : RunEnd) → before ≡ None → MayLeave face before disk end → IsSome (answer_of end) ⊎ (end ≡ Memory)
+unkept_ends face before disk end none cause = none_ends face disk end (subst (λ o. MayLeave face o disk end) none cause)
+
+pub unkept_whole : {D : Type 0} (face : D → Face) (j : Job) (table : Slots) (disk : Option D) (end : RunEnd) → table ≡ nones j → IfSome (answer_of end) (Completes face j table disk)
     → IfSome (answer_of end) (λ answer. answer ≡ run_value j)
-unkept_whole face j disk end whole = some_map (answer_of end) (Completes face j (nones j) disk) (λ answer. answer ≡ run_value j)
-    (λ answer c. sym c.total_is ∙ full_total j c.slots c.full (extended_true j (nones j) c.slots c.extends (nones_true j))) whole
+unkept_whole face j table disk end bare whole = some_map (answer_of end) (Completes face j table disk) (λ answer. answer ≡ run_value j)
+    (λ answer c. sym c.total_is ∙ full_total j c.slots c.full (extended_true j table c.slots c.extends (subst (AreTrue j) (sym bare) (nones_true j)))) whole
+
+-- ---- the disk that is handed back
+pub went_is_some : {D : Type 0} (P : D → D → Type 0) (old new : Option D) → Went P old new → IsSome old → IsSome new
+went_is_some P None new went some = absurd (wrong some)
+  where
+    wrong : false ≡ true → ⊥
+    wrong e = cc
+went_is_some P (Some d) None went some = absurd went
+went_is_some P (Some d) (Some e) went some = refl
+
+pub runs_from : {D : Type 0} (face : D → Face) (loans : D → List ℕ) (j : Job) (table : Slots) (end : RunEnd) (disk left : Option D) (e : D) → left ≡ Some e
+    → Went (Serves face loans j) disk left → ForSome left (λ e. Reads (face e) (GoesOn j table)) → (IsFull j table → left ≡ disk)
+    → IfSome (answer_of end) (Completes face j table left) → MayLeave face disk left end → ForSome disk (λ d. RunsOn face loans j table end d e)
+runs_from {D} face loans j table end disk left e is went goes finished whole cause d at = record {
+  same = serves.same.same;
+  continues = record {
+    spares = serves.spares;
+    made = serves.made;
+    goes_on = serves.goes_on;
+    reads = goes e is;
+    finished = λ full. subst (λ (x : D). IsUnwritten (face d) (face x)) (one_value d e (sym at ∙ sym (finished full) ∙ is)) (unwritten_same (face d));
+  };
+  whole = subst (λ o. IfSome (answer_of end) (Completes face j table o)) is whole;
+  cause = subst (λ o. MayLeave face o (Some e) end) at (subst (λ o. MayLeave face disk o end) is cause);
+}
+  where
+    serves : Serves face loans j d e
+    serves = subst (λ o. Went (Serves face loans j) (Some d) o) is (subst (λ o. Went (Serves face loans j) o left) at went)

@@ -45,7 +45,7 @@ returns-clause-granted g c some =
     let start : told board.timer.now ≡ told c.args.timer.now = ap (λ (m : MutBor g.row.T.Denot). told m.now) c.in-Ok-attach.ensures.timer in
     let rose : RoseBy (count_bare j table) (told c.args.timer.now) (told after.timer.now) =
     subst (λ n. RoseBy n (told c.args.timer.now) (told after.timer.now)) (sym fresh) (subst (λ n. RoseBy (count_fresh board) n (told after.timer.now)) start (c.run_to_end-end.ensures.granted some)) in
-    first_of (search (rules, rose), ?)
+    search (rules, rose)
 
 pub returns-clause-whole : goal.returns-clause-whole
 returns-clause-whole g c =
