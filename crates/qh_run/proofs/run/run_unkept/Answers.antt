@@ -1,6 +1,7 @@
 use Rattle.std.proofs.Common.{◌≡◌, ap, subst, ◌∙◌}
 use Rattle.std.specs.Arc.{arc_value}
 use Rattle.qh_counts.specs.Counts.{RoseBy}
+use Rattle.qh_disk.specs.History.{face_of}
 use Rattle.qh_record.specs.Record.{count_bare}
 use Rattle.qh_run.proofs.KeptLemmas.{unkept_whole, unkept_ends}
 use Rattle.qh_run.proofs.CountLemmas.{bare_nones}
@@ -14,7 +15,7 @@ returns-clause-whole g c =
 pub returns-clause-ends : goal.returns-clause-ends
 returns-clause-ends g c =
     let left = c.run_journal-end.result in
-    unkept_ends _ c.in-Ok.journal.disk left.disk left.end (ap (λ k. k.disk) c.in-Ok.ensures) c.run_journal-end.ensures.cause
+    unkept_ends face_of c.in-Ok.journal.disk left.disk left.end (ap (λ k. k.disk) c.in-Ok.ensures) c.run_journal-end.ensures.cause
 
 pub returns-clause-granted : goal.returns-clause-granted
 returns-clause-granted g c some =
