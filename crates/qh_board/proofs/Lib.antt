@@ -3,3 +3,4 @@ pub mod GroupLemmas
 pub mod StartLemmas
 pub mod DeliverLemmas
 pub mod DiskLemmas
+pub mod PickLemmas

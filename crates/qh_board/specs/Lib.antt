@@ -3,3 +3,4 @@ pub mod Board
 pub mod Claims
 pub mod Deliveries
 pub mod Groups
+pub mod Picking

@@ -17,6 +17,7 @@ use crate::start::{course_of, total_of};
 use qh_disk::Disk;
 use qh_journal::{Journal, Unmade};
 use qh_lease::{LEDGER_PARTS, Ledgers, Share, Tally, Timer, Totals};
+use qh_limits::MAX_RANGES;
 use qh_plan::Job;
 use qh_replay::{Course, Noted};
 use qh_ring::Omega;
@@ -24,6 +25,9 @@ use qh_totals::RunningTotal;
 use std::alloc::{AllocError, Global};
 use std::marker::Model;
 use std::sync::Arc;
+
+// No history is longer, so no count of it comes near its limit.
+pub(crate) const MOST_ENTRIES: usize = 64 * MAX_RANGES as usize;
 
 /// The board of a run: the leases of its ranges, its journal, and all that was done since it was attached. It borrows its timer and
 /// owns its journal.
@@ -45,7 +49,9 @@ impl<'d, D: Disk, T: Timer, N: Ledgers> Model for Board<'d, D, T, N> {
 
     ghost view = { λ b. record { job = arc_value b.job; journal = b.journal; timer = b.timer; course = b.course; total = b.total; tally = b.tally } };
 
-    ghost invariant = { λ b. IsBoard D.face (record { job = arc_value b.job; journal = b.journal; timer = b.timer; course = b.course; total = b.total; tally = b.tally }) };
+    ghost invariant = { λ b.
+        let seen : BoardView D T = record { job = arc_value b.job; journal = b.journal; timer = b.timer; course = b.course; total = b.total; tally = b.tally } in
+        IsBoard D.face seen };
 }
 
 impl<'d, D: Disk, T: Timer, N: Ledgers> Board<'d, D, T, N> {
@@ -102,7 +108,7 @@ impl<'d, D: Disk, T: Timer, N: Ledgers> Board<'d, D, T, N> {
         ensures course { IsCourse self.now.course }
     {
         prove!(self.journal.failed() == self.course.fault().is_some());
-        prove!(self.course.history().len() <= 64 * 16384);
+        prove!(self.course.history().len() <= MOST_ENTRIES);
         self.course.is_finished()
     }
 

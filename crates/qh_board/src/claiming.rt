@@ -8,7 +8,7 @@ ghost use Rattle.qh_replay.specs.Replay.{is_begun};
 ghost use Rattle.qh_board.specs.Board.{begun};
 ghost use Rattle.qh_board.specs.Claims.{granted, one_grant, given_back, one_back, ClaimComes, ClaimDoes, AdmitComes, AdmitDoes, StaysAsIs, TakesBack, SweepIs};
 
-use crate::board::Board;
+use crate::board::{Board, MOST_ENTRIES};
 use crate::choice::next;
 use qh_disk::Disk;
 use qh_lease::{Lease, Ledgers, Share, Tally, Timer};
@@ -54,7 +54,7 @@ impl<'d, D: Disk, T: Timer, N: Ledgers> Board<'d, D, T, N> {
         if let Some(faults) = self.course.fault() {
             return Claim::Halted { faults };
         }
-        prove!(self.course.history().len() <= 64 * 16384);
+        prove!(self.course.history().len() <= MOST_ENTRIES);
         let Some(range) = next(&self.course, self.timer) else {
             return Claim::Drained;
         };
@@ -72,7 +72,7 @@ impl<'d, D: Disk, T: Timer, N: Ledgers> Board<'d, D, T, N> {
         if let Some(faults) = self.course.fault() {
             return Admit::Halted { faults };
         }
-        prove!(self.course.history().len() <= 64 * 16384);
+        prove!(self.course.history().len() <= MOST_ENTRIES);
         if self.course.lease(range) != Lease::Fresh {
             return Admit::Taken;
         }
@@ -87,7 +87,7 @@ impl<'d, D: Disk, T: Timer, N: Ledgers> Board<'d, D, T, N> {
         ensures same { OnFalse result (StaysAsIs self.old self.new share.old share.new) }
         ensures begun { (range : ℕ) → begun self.new range ≡ begun self.old range }
     {
-        prove!(self.course.history().len() <= 64 * 16384);
+        prove!(self.course.history().len() <= MOST_ENTRIES);
         if !self.course.give_back(ticket.range(), ticket.attempt()) {
             return false;
         }

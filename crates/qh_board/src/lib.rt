@@ -13,6 +13,7 @@ mod choice;
 mod claiming;
 mod delivering;
 mod group;
+mod picking;
 mod start;
 
 pub use board::Board;

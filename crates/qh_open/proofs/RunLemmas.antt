@@ -1,22 +1,24 @@
--- What an opening and the calls that follow it make of a journal together.
+-- What an opening and the calls that follow it make of a journal together, and the slots that they begin with.
 use Rattle.std.proofs.Common.{◌≡◌, ◌⊎◌, inl, inr, ℕ, Bool, true, false, List, [], ◌∷◌, Option, Some, refl, sym, ap, subst, ◌∙◌}
 use Rattle.std.proofs.lemmas.Bool.{false≢true}
 use Rattle.std.specs.Prelude.{IfSome, IsSomeAnd, option_and_then}
 use Rattle.qh_plan.specs.declared.verdict.Verdict.{Verdict}
 use Rattle.qh_plan.specs.Jobs.{Job, IsJob}
-use Rattle.qh_disk.specs.Disk.{Face, Reads}
+use Rattle.qh_disk.specs.Disk.{Face, IsImage, Reads}
 use Rattle.qh_disk.specs.Moments.{EachImage, EachImageSince, Runs, Lasts}
-use Rattle.qh_disk.proofs.Moments.{runs_on, lasts_same, lasts_since, safe_each, each_since_on, since_new}
-use Rattle.qh_slots.specs.Stands.{Slots, Stands, Made, Holds}
+use Rattle.qh_disk.proofs.Moments.{runs_on, lasts_same, lasts_on, lasts_since, safe_each, each_since_on, since_new}
+use Rattle.qh_slots.specs.Stands.{Slots, AreTrue, Stands, Made, Holds}
 use Rattle.qh_slots.specs.Attaching.{slots_of}
 use Rattle.qh_slots.proofs.StandLemmas.{one_map}
 use Rattle.qh_parts.specs.Laying.{IsUnbegun}
-use Rattle.qh_parts.proofs.PartLemmas.{spares_same}
+use Rattle.qh_parts.specs.Sparing.{Spares}
+use Rattle.qh_parts.proofs.PartLemmas.{spares_same, spares_on}
+use Rattle.qh_parts.proofs.StepLemmas.{begun}
 use Rattle.qh_record.specs.Record.{counted, given, taken_over, slots_before, slots_after, Extends, Grows, IsFinished, IsFull}
-use Rattle.qh_record.specs.Moments.{IsOldOrMade, IsOldOrGoesOn, StandsFor, GoesOn}
+use Rattle.qh_record.specs.Moments.{BeginsTrue, IsOldOrMade, IsOldOrGoesOn, IsUnwritten, StandsFor, GoesOn}
 use Rattle.qh_record.specs.Keeps.{KeepsJournal}
 use Rattle.qh_open.specs.Opening.{Opened, Continues, keeping}
-use Rattle.qh_open.proofs.OptionLemmas.{some_from, some_to, some_map, map_has, and_has}
+use Rattle.qh_open.proofs.OptionLemmas.{some_from, some_to, some_map, map_has, and_has, is_some_has}
 use Rattle.qh_open.proofs.EmptyLemmas.{empty_stands}
 use Rattle.qh_open.proofs.MomentLemmas.{stays_on, stays_new, every_stable, unwritten_same, unwritten_on}
 use Rattle.qh_open.proofs.SameLemmas.{extends_same, extends_equal}
@@ -31,12 +33,41 @@ continues_same j table d reads = record {
   finished = λ full. unwritten_same d;
 }
 
+-- some calls more
+pub continues_on : (j : Job) (table : Slots) (old mid new : Face) → Continues j table old mid → Spares j mid new → Lasts (Made j) mid new
+    → ((s : Slots) → Lasts (GoesOn j s) mid new) → Reads new (GoesOn j table) → (IsFull j table → IsUnwritten mid new) → Continues j table old new
+continues_on j table old mid new first spares made goes reads finished = record {
+  spares = spares_on j old mid new first.spares spares;
+  made = lasts_on (Made j) old mid new first.made spares.runs made;
+  goes_on = λ s. lasts_on (GoesOn j s) old mid new (first.goes_on s) spares.runs (goes s);
+  reads = reads;
+  finished = λ full. unwritten_on old mid new first.spares.runs (first.finished full) spares.runs (finished full);
+}
+
 -- a journal that stands for the job gives its slots
-before_stands : (fresh taking : Bool) (j : Job) → IsJob j → (s : Slots) (o : Option (List ℕ)) (f : List ℕ) → fresh ≡ false → Stands j s f → given
-    (keeping fresh taking) j (counted (keeping fresh taking) f) o ≡ Some s
+before_stands : (fresh taking : Bool) (j : Job) → IsJob j → (s : Slots) (o : Option (List ℕ)) (f : List ℕ) → fresh ≡ false → Stands j s f
+    → given (keeping fresh taking) j (counted (keeping fresh taking) f) o ≡ Some s
 before_stands true taking j is s o f fresh stands = absurd (false≢true (sym fresh))
 before_stands false taking j is s o [] fresh stands = absurd (empty_stands j s [] stands refl)
 before_stands false taking j is s o (b ∷ bs) fresh stands = ap Some (one_map j is s (b ∷ bs) stands)
+
+-- the slots that the run begins with are true, where the disks tell that they were made by runs of the job
+made_true : (j : Job) → IsJob j → (table : Slots) (f : List ℕ) → Stands j table f → Made j f → AreTrue j table
+made_true j is table f stands (inl unbegun) = absurd (unbegun (begun j table f stands))
+made_true j is table f stands (inr made) = subst (AreTrue j) (sym (one_map j is made.slots f made.stands) ∙ one_map j is table f stands) made.true_slots
+
+each_made : (fresh taking : Bool) (j : Job) (old disk mid : Face) (table : Slots) → Opened (keeping fresh taking) j old disk mid table
+    → BeginsTrue (keeping fresh taking) j disk old → EachImage mid (Made j)
+each_made true taking j old disk mid table opened begins = opened.renewed refl begins.taken
+each_made false taking j old disk mid table opened begins = λ c is.
+    opened.keeps.made (record { journal = begins.journal refl refl; taken = begins.taken }) c (since_new disk mid opened.keeps.runs c is)
+
+pub begins_true : (fresh taking : Bool) (j : Job) (old disk mid : Face) (table : Slots) → Opened (keeping fresh taking) j old disk mid table
+    → Reads mid (IsImage mid) → BeginsTrue (keeping fresh taking) j disk old → AreTrue j table
+begins_true fresh taking j old disk mid table opened current begins =
+    let has = is_some_has mid.content (opened.keeps.runs.told ∙ begins.told refl) in
+    made_true j opened.valid table has.value (opened.reads has.value has.is)
+    (each_made fresh taking j old disk mid table opened begins has.value (current has.value has.is))
 
 module _ (fresh taking : Bool) (j : Job) (old disk mid after : Face) (table : Slots) (opened : Opened (keeping fresh taking) j old disk mid table)
     (continues : Continues j table mid after) where

@@ -56,10 +56,17 @@ closed_holds : (j : Job) (r : ℕ) (v : Verdict) (old new : Face) → StaysClose
 closed_holds j r v old new a each = lasts_absurd (Holds j r v) IsUnbegun old new (a.closed each) (λ c unbegun held. unbegun (begun j held.slots c held.stands)) a.none
 
 closed_begun : (j : Job) (old new : Face) → StaysClosed old new → EachImage old IsUnbegun → Lasts (StandsFor j) old new
-closed_begun j old new a each = lasts_absurd (StandsFor j) IsUnbegun old new (a.closed each) (λ c unbegun stands. unbegun (begun j stands.slots c stands.stands)) a.none
+closed_begun j old new a each = lasts_absurd (StandsFor j) IsUnbegun old new (a.closed each)
+    (λ c unbegun stands. unbegun (begun j stands.slots c stands.stands)) a.none
 
 pub creates_closed : (j : Job) (s : Slots) (old new : Face) → StaysClosed old new → Creates j s old new
-creates_closed j s old new a = record { runs = a.runs; none = a.none; since = λ each c is. inl (a.closed each c is); begun = λ each. closed_begun j old new a each; stable = λ each r v. closed_holds j r v old new a each }
+creates_closed j s old new a = record {
+  runs = a.runs;
+  none = a.none;
+  since = λ each c is. inl (a.closed each c is);
+  begun = λ each. closed_begun j old new a each;
+  stable = λ each r v. closed_holds j r v old new a each;
+}
 
 pub creates_on : (j : Job) (s : Slots) (old mid new : Face) → StaysClosed old mid → Creates j s mid new → Creates j s old new
 creates_on j s old mid new a b = record {

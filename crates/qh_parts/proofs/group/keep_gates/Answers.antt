@@ -26,4 +26,5 @@ pub returns-clause-partly : goal.returns-clause-partly
 returns-clause-partly g c s reads = looks_reads (StandsPartly c.args.job.now s c.args.group.now) _ _ c.settle.ensures.looks (c.open_gates.ensures.partly s reads)
 
 pub returns-clause-goes_on : goal.returns-clause-goes_on
-returns-clause-goes_on g c values s = goes_on _ s _ _ _ c.open_gates.ensures.spares (c.open_gates.ensures.goes_on values s) (spares_looks _ _ _ c.settle.ensures.looks) (goes_looks _ s _ _ c.settle.ensures.looks)
+returns-clause-goes_on g c values s = goes_on _ s _ _ _ c.open_gates.ensures.spares (c.open_gates.ensures.goes_on values s)
+    (spares_looks _ _ _ c.settle.ensures.looks) (goes_looks _ s _ _ c.settle.ensures.looks)
