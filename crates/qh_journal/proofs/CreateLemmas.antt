@@ -9,6 +9,7 @@ use Rattle.qh_disk.proofs.Moments.{runs_same, lasts_same, each_since_same}
 use Rattle.qh_slots.specs.Stands.{Slots, slot_at, nones, Stands, Made, Holds}
 use Rattle.qh_slots.specs.Attaching.{slots_of}
 use Rattle.qh_slots.proofs.StandLemmas.{one_map, closed}
+use Rattle.qh_record.specs.Moments.{StandsFor}
 use Rattle.qh_parts.specs.Sparing.{Spares}
 use Rattle.qh_parts.specs.Laying.{IsUnbegun, IsFresh, Creates}
 use Rattle.qh_parts.proofs.LayLemmas.{none_at}
@@ -32,7 +33,12 @@ empty_unbegun : (d : Face) → EachImage d (λ f. f ≡ []) → EachImage d IsUn
 empty_unbegun d empty c is = zero_unbegun c (ap (λ (l : List ℕ). get_or l 0 0) (empty c is))
 
 creates_spares : (j : Job) (old new : Face) → Creates j (nones j) old new → EachImage old (λ f. f ≡ []) → Spares j old new
-creates_spares j old new creates empty = record { runs = creates.runs; none = creates.none; stable = creates.stable (empty_unbegun old empty) }
+creates_spares j old new creates empty = record {
+  runs = creates.runs;
+  none = creates.none;
+  begun = creates.begun (empty_unbegun old empty);
+  stable = creates.stable (empty_unbegun old empty);
+}
 
 creates_made : (j : Job) (old new : Face) → Creates j (nones j) old new → EachImage old (λ f. f ≡ []) → Lasts (Made j) old new
 creates_made j old new creates empty = record {
@@ -45,6 +51,7 @@ creates_same j d = record {
   runs = runs_same d;
   none = lasts_same (λ _. ⊥) d;
   since = λ unbegun. each_since_same (IsFresh j (nones j)) d (λ c is. inl (unbegun c is));
+  begun = λ unbegun. lasts_same (StandsFor j) d;
   stable = λ unbegun r v. lasts_same (Holds j r v) d;
 }
 

@@ -10,9 +10,11 @@ use Rattle.qh_disk.specs.Disk.{Face, IsSafe, Reads}
 use Rattle.qh_disk.specs.Moments.{EachImage, Lasts}
 use Rattle.qh_disk.proofs.Moments.{lasts_now, lasts_same, runs_same}
 use Rattle.qh_slots.specs.Stands.{Slots, slot_at, AllFit, Stands, Made, Holds, Shut}
+use Rattle.qh_record.specs.Moments.{GoesOn}
 use Rattle.qh_parts.specs.Sparing.{Spares}
 use Rattle.qh_parts.specs.Groups.{AreShut, IsGroup, StandsPartly, filled, range_of, member_of}
 use Rattle.qh_parts.specs.declared.member.Member.{Member}
+use Rattle.qh_parts.proofs.PartLemmas.{spares_same}
 use Rattle.qh_parts.proofs.GroupLemmas.{filled_fits, filled_from, filled_length, partly_none}
 use Rattle.qh_journal.specs.Calls.{Went, Same, JournalView, IsJournal}
 
@@ -44,14 +46,14 @@ pub went_here : {D : Type 0} (A : D → Type 0) (old : Option D) → ForSome old
 went_here A None some = refl
 went_here A (Some d) some = some d refl
 
-pub spares_same : (j : Job) (d : Face) → Spares j d d
-spares_same j d = record { runs = runs_same d; none = lasts_same (λ _. ⊥) d; stable = λ r v. lasts_same (Holds j r v) d }
-
 pub disk_same : {D : Type 0} (face : D → Face) (loans : D → List ℕ) (j : Job) (old : Option D) → Went (λ d e. Same face loans d e × Spares j (face d) (face e)) old old
 disk_same face loans j old = went_same (λ d e. Same face loans d e × Spares j (face d) (face e)) old (λ d. (record { same = refl; runs = runs_same (face d) }, spares_same j (face d)))
 
 pub made_same : {D : Type 0} (face : D → Face) (j : Job) (old : Option D) → Went (λ d e. Lasts (Made j) (face d) (face e)) old old
 made_same face j old = went_same (λ d e. Lasts (Made j) (face d) (face e)) old (λ d. lasts_same (Made j) (face d))
+
+pub goes_same : {D : Type 0} (face : D → Face) (j : Job) (old : Option D) → Went (λ d e. (s : Slots) → Lasts (GoesOn j s) (face d) (face e)) old old
+goes_same face j old = went_same (λ d e. (s : Slots) → Lasts (GoesOn j s) (face d) (face e)) old (λ d s. lasts_same (GoesOn j s) (face d))
 
 pub partly_same : {D : Type 0} (face : D → Face) (j : Job) (t : Slots) (group : List Member) (old : Option D) → ForSome old (λ d. Reads (face d) (Stands j t)) → Went (λ d e. Reads (face e) (StandsPartly j t group)) old old
 partly_same face j t group old some = went_here (λ e. Reads (face e) (StandsPartly j t group)) old (λ d is f told. partly_none j t group f (some d is f told))

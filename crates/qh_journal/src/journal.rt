@@ -3,12 +3,13 @@ ghost use Rattle.std.specs.Prelude.{◌≡◌, ◌≢◌, ◌⊎◌, ◌<◌, �
 ghost use Rattle.std.specs.Option.{IsSomeAnd, ForSome};
 ghost use Rattle.std.specs.Arc.{arc_value};
 ghost use Rattle.qh_counts.specs.Counts.{Rose};
-ghost use Rattle.qh_plan.specs.Jobs.{ranges};
+ghost use Rattle.qh_plan.specs.Jobs.{ranges, IsJob};
 ghost use Rattle.qh_plan.specs.Ranges.{Fits};
 ghost use Rattle.qh_meaning.specs.Values.{range_value};
 ghost use Rattle.qh_disk.specs.Disk.{IsSafe, Reads};
 ghost use Rattle.qh_disk.specs.Moments.{Lasts};
-ghost use Rattle.qh_slots.specs.Stands.{Stands, Made, slot_at, nones};
+ghost use Rattle.qh_slots.specs.Stands.{Slots, Stands, Made, slot_at, nones};
+ghost use Rattle.qh_record.specs.Moments.{GoesOn};
 ghost use Rattle.qh_parts.specs.Sparing.{Spares};
 ghost use Rattle.qh_parts.specs.Groups.{AreShut, AreValues, IsGroup, StandsPartly, filled};
 ghost use Rattle.qh_journal.specs.Calls.{Attaches, AttachMayFail, CreateMayFail, IsCreated, IsJournal, Same, Went};
@@ -69,6 +70,7 @@ impl<D: Disk> Journal<D> {
     ) -> Result<Journal<D>, Unmade<D, AttachFault>>
         ensures job { IfOk result (λ k. (k.job ≡ arc_value job.now) × (k.failed ≡ false)) }
         ensures disk { IfOk result (λ k. IsSomeAnd k.disk (λ e. Attaches D.face D.loans disk e × IsSafe (D.face e) × Reads (D.face e) (Stands k.job k.table))) }
+        ensures valid { IsJob (arc_value job.now) }
         ensures back { IfErr result (λ u. Attaches D.face D.loans disk u.disk) }
         ensures fault { IfErr result (λ u. AttachMayFail (arc_value job.now) u.fault (D.face disk) (D.face u.disk)) }
     {
@@ -137,6 +139,8 @@ impl<D: Disk> Journal<D> {
         ensures err { OnErr result (self.new ≡ record { disk = self.new.disk; job = self.old.job; table = self.old.table; failed = true }) }
         ensures disk { Went (λ d e. Same D.face D.loans d e × Spares self.old.job (D.face d) (D.face e)) self.old.disk self.new.disk }
         ensures made { verdict ≡ range_value self.old.job range → Went (λ d e. Lasts (Made self.old.job) (D.face d) (D.face e)) self.old.disk self.new.disk }
+        ensures goes_on { verdict ≡ range_value self.old.job range
+            → Went (λ d e. (s : Slots) → Lasts (GoesOn self.old.job s) (D.face d) (D.face e)) self.old.disk self.new.disk }
         ensures reads { Went (λ d e. Reads (D.face e) (λ f. Stands self.old.job self.old.table f ⊎ Stands self.old.job (set self.old.table range (Some verdict)) f)) self.old.disk self.new.disk }
         ensures rose { OnErr result (Went (λ d e. Rose (D.face d).faults (D.face e).faults) self.old.disk self.new.disk) }
         ensures count { IfErr result (λ u. ForSome self.new.disk (λ e. u.faults ≡ (D.face e).faults)) }
@@ -173,6 +177,8 @@ impl<D: Disk> Journal<D> {
         ensures err { OnErr result (self.new ≡ record { disk = self.new.disk; job = self.old.job; table = self.old.table; failed = true }) }
         ensures disk { Went (λ d e. Same D.face D.loans d e × Spares self.old.job (D.face d) (D.face e)) self.old.disk self.new.disk }
         ensures made { AreValues self.old.job group.items → Went (λ d e. Lasts (Made self.old.job) (D.face d) (D.face e)) self.old.disk self.new.disk }
+        ensures goes_on { AreValues self.old.job group.items
+            → Went (λ d e. (s : Slots) → Lasts (GoesOn self.old.job s) (D.face d) (D.face e)) self.old.disk self.new.disk }
         ensures reads { Went (λ d e. Reads (D.face e) (StandsPartly self.old.job self.old.table group.items)) self.old.disk self.new.disk }
         ensures rose { OnErr result (Went (λ d e. Rose (D.face d).faults (D.face e).faults) self.old.disk self.new.disk) }
         ensures count { IfErr result (λ u. ForSome self.new.disk (λ e. u.faults ≡ (D.face e).faults)) }

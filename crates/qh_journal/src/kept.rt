@@ -68,12 +68,14 @@ pub(crate) fn keep<D: Disk>(
     ensures fits { IfOk result (λ k. AllFit (arc_value job.now) k.table.items) }
     ensures slots { IfOk result (λ k. Reads (D.face disk.new) (Stands (arc_value job.now) k.table.items)) }
     ensures safe { OnOk result (IsSafe (D.face disk.new)) }
+    ensures valid { IsJob (arc_value job.now) }
     ensures fault { IfErr result (λ u. AttachMayFail (arc_value job.now) u (D.face disk.old) (D.face disk.new)) }
     ensures looks { Looks (D.face disk.old) (D.face disk.new) }
     ensures same { D.loans disk.new ≡ D.loans disk.old }
 {
+    let size = body_size(job);
     let wanted = head(alloc, job)?;
-    let body = vec![in alloc; 0; body_size(job)]?;
+    let body = vec![in alloc; 0; size]?;
     let mine = Arc::try_clone(job)?;
     let table = match examine(alloc, disk, job, wanted.as_slice()) {
         Ok(table) => table,

@@ -11,6 +11,7 @@ ghost use Rattle.qh_disk.specs.Moments.{EachImage, Lasts};
 ghost use Rattle.qh_slots.specs.Layout.{head, place, body_size};
 ghost use Rattle.qh_slots.specs.Slots.{spelled};
 ghost use Rattle.qh_slots.specs.Stands.{Slots, Stands, Made, Holds, Shut};
+ghost use Rattle.qh_record.specs.Moments.{GoesOn};
 ghost use Rattle.qh_parts.specs.Sparing.{Spares};
 ghost use Rattle.qh_parts.specs.Groups.{AreValues, IsGroup, StandsPartly, filled, range_of, member_of};
 ghost use Rattle.qh_journal.specs.Calls.{Went, Same};
@@ -52,6 +53,7 @@ pub(crate) fn write<D: Disk>(
     ensures either { (s : Slots) → Went (λ d e. Reads (D.face d) (Stands job.now s) → Reads (D.face e) (λ f. Stands job.now s f ⊎ Stands job.now (set s range (Some verdict.now)) f)) disk.old disk.new }
     ensures went { Went (λ d e. Same D.face D.loans d e × Spares job.now (D.face d) (D.face e)) disk.old disk.new }
     ensures made { verdict.now ≡ range_value job.now range → Went (λ d e. Lasts (Made job.now) (D.face d) (D.face e)) disk.old disk.new }
+    ensures goes_on { verdict.now ≡ range_value job.now range → Went (λ d e. (s : Slots) → Lasts (GoesOn job.now s) (D.face d) (D.face e)) disk.old disk.new }
     ensures rose { OnErr result (Went (λ d e. Rose (D.face d).faults (D.face e).faults) disk.old disk.new) }
     ensures count { IfErr result (λ u. ForSome disk.new (λ e. u.faults ≡ (D.face e).faults)) }
     ensures unkept { disk.old ≡ None → IsOk result }
@@ -82,6 +84,7 @@ pub(crate) fn write_group<D: Disk>(
     ensures partly { (s : Slots) → Went (λ d e. Reads (D.face d) (Stands job.now s) → Reads (D.face e) (StandsPartly job.now s group.now)) disk.old disk.new }
     ensures went { Went (λ d e. Same D.face D.loans d e × Spares job.now (D.face d) (D.face e)) disk.old disk.new }
     ensures made { AreValues job.now group.now → Went (λ d e. Lasts (Made job.now) (D.face d) (D.face e)) disk.old disk.new }
+    ensures goes_on { AreValues job.now group.now → Went (λ d e. (s : Slots) → Lasts (GoesOn job.now s) (D.face d) (D.face e)) disk.old disk.new }
     ensures rose { OnErr result (Went (λ d e. Rose (D.face d).faults (D.face e).faults) disk.old disk.new) }
     ensures count { IfErr result (λ u. ForSome disk.new (λ e. u.faults ≡ (D.face e).faults)) }
     ensures unkept { disk.old ≡ None → IsOk result }

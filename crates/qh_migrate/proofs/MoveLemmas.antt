@@ -19,6 +19,7 @@ use Rattle.qh_slots.proofs.StandLemmas.{old_head_size, old_passes, old_refusal_t
 use Rattle.qh_parts.specs.Reading.{FrontMayFail, SlotsMayFail}
 use Rattle.qh_parts.specs.Laying.{IsUnbegun, IsFresh, Creates}
 use Rattle.qh_parts.proofs.WipeLemmas.{zero_unbegun}
+use Rattle.qh_parts.proofs.PartLemmas.{spares_same}
 use Rattle.qh_parts.proofs.LayLemmas.{none_at}
 use Rattle.qh_migrate.specs.Moving.{OldMayFail, MigrateMayFail, Leaves}
 use Rattle.qh_migrate.specs.Faults.{migrate_of}
@@ -162,9 +163,8 @@ pub leaves_same : (j : Job) (was d : Face) → Reads d (IsImage d) → EachImage
 leaves_same j was d current empty = record {
   slots = told_slots j was.content;
   are_old = λ f told. told_is j was.content f told;
-  runs = runs_same d;
   since = each_since_same (IsFresh j (told_slots j was.content)) d (λ c is. inl (empty_unbegun d empty c is));
-  stable = λ r v. lasts_same (Holds j r v) d;
+  spares = spares_same j d;
   reads = λ f told. inl (empty_unbegun d empty f (current f told));
 }
 
@@ -172,9 +172,13 @@ pub leaves_created : (j : Job) → IsJob j → (table : Slots) (was old new : Fa
 leaves_created j is table was old new stood empty creates fresh = record {
   slots = table;
   are_old = λ f told. one_map1 j is table f (stood f told);
-  runs = creates.runs;
   since = creates.since (empty_unbegun old empty);
-  stable = creates.stable (empty_unbegun old empty);
+  spares = record {
+    runs = creates.runs;
+    none = creates.none;
+    begun = creates.begun (empty_unbegun old empty);
+    stable = creates.stable (empty_unbegun old empty);
+  };
   reads = fresh;
 }
 

@@ -3,18 +3,19 @@ use Rattle.std.proofs.Common.{◌≡◌, ◌<◌, inl, inr, ℕ, ◌+◌, ◌-�
 use Rattle.std.proofs.lemmas.Bool.{cases_eq, cases_lt}
 use Rattle.std.proofs.lemmas.List.{places, ext_get_or, get_or_past, get_or-take, get_or-replicate, get_or-drop, length-drop, length-take, length-replicate, length-set, get_or-set_same, get_or-set_other}
 use Rattle.qh_plan.specs.declared.verdict.Verdict.{Verdict}
-use Rattle.qh_plan.specs.Jobs.{Job, IsJob, ranges}
+use Rattle.qh_plan.specs.Jobs.{Job, ranges}
 use Rattle.qh_plan.specs.Ranges.{Fits}
 use Rattle.qh_disk.specs.Disk.{Face, IsSafe, Reads, Becomes, overwritten, resized, Torn, Stretched, Turns, Calls}
 use Rattle.qh_disk.specs.Moments.{EachImage, EachImageSince, Runs, Lasts}
 use Rattle.qh_disk.specs.Looks.{Looks}
 use Rattle.qh_disk.specs.declared.failed.Failed.{Failed}
-use Rattle.qh_disk.proofs.Moments.{runs_same, lasts_same, each_since_same, lasts_call, lasts_on, runs_call, runs_on, turns_keeps, safe_each, each_since_call, each_since_on}
+use Rattle.qh_disk.proofs.Moments.{lasts_call, lasts_on, runs_call, runs_on, turns_keeps, safe_each, each_since_call, each_since_on}
 use Rattle.qh_disk.proofs.Looking.{narrows_lasts, narrows_since, lasts_absurd}
 use Rattle.qh_disk.proofs.Rules.{told_before, resized_length, resized_beyond, overwritten_inside, overwritten_torn}
 use Rattle.qh_slots.specs.Layout.{mark, head, place, part, slot_size, body_size}
 use Rattle.qh_slots.specs.Slots.{SlotIs, spelled}
 use Rattle.qh_slots.specs.Stands.{Slots, slot_at, nones, Stands, Holds}
+use Rattle.qh_record.specs.Moments.{StandsFor}
 use Rattle.qh_slots.proofs.StandLemmas.{head_size, head_named}
 use Rattle.qh_slots.proofs.SpellingLemmas.{spelled_size}
 use Rattle.qh_slots.proofs.PlaceLemmas.{place_start, apart}
@@ -54,14 +55,25 @@ closed_on old mid new a b = record {
 closed_holds : (j : Job) (r : ℕ) (v : Verdict) (old new : Face) → StaysClosed old new → EachImage old IsUnbegun → Lasts (Holds j r v) old new
 closed_holds j r v old new a each = lasts_absurd (Holds j r v) IsUnbegun old new (a.closed each) (λ c unbegun held. unbegun (begun j held.slots c held.stands)) a.none
 
+closed_begun : (j : Job) (old new : Face) → StaysClosed old new → EachImage old IsUnbegun → Lasts (StandsFor j) old new
+closed_begun j old new a each = lasts_absurd (StandsFor j) IsUnbegun old new (a.closed each)
+    (λ c unbegun stands. unbegun (begun j stands.slots c stands.stands)) a.none
+
 pub creates_closed : (j : Job) (s : Slots) (old new : Face) → StaysClosed old new → Creates j s old new
-creates_closed j s old new a = record { runs = a.runs; none = a.none; since = λ each c is. inl (a.closed each c is); stable = λ each r v. closed_holds j r v old new a each }
+creates_closed j s old new a = record {
+  runs = a.runs;
+  none = a.none;
+  since = λ each c is. inl (a.closed each c is);
+  begun = λ each. closed_begun j old new a each;
+  stable = λ each r v. closed_holds j r v old new a each;
+}
 
 pub creates_on : (j : Job) (s : Slots) (old mid new : Face) → StaysClosed old mid → Creates j s mid new → Creates j s old new
 creates_on j s old mid new a b = record {
   runs = runs_on old mid new a.runs b.runs;
   none = lasts_on (λ _. ⊥) old mid new a.none b.runs b.none;
   since = λ each. each_since_on (IsFresh j s) old.clock mid new (λ c is. inl (a.closed each c is)) b.runs (b.since (each_at_end IsUnbegun old mid a.runs (a.closed each)));
+  begun = λ each. lasts_on (StandsFor j) old mid new (closed_begun j old mid a each) b.runs (b.begun (each_at_end IsUnbegun old mid a.runs (a.closed each)));
   stable = λ each r v. lasts_on (Holds j r v) old mid new (closed_holds j r v old mid a each) b.runs (b.stable (each_at_end IsUnbegun old mid a.runs (a.closed each)) r v);
 }
 
@@ -71,6 +83,7 @@ creates_looks j s old mid new a looks = record {
   none = lasts_on (λ _. ⊥) old mid new a.none looks.runs (narrows_lasts (λ _. ⊥) mid new looks.narrows);
   since = λ each. each_since_on (IsFresh j s) old.clock mid new (a.since each) looks.runs
       (λ c is. a.since each c (record { moment = mid.clock; after = a.runs.later; by_now = omega arith; image = narrows_since mid new looks.runs looks.narrows c is }));
+  begun = λ each. lasts_on (StandsFor j) old mid new (a.begun each) looks.runs (narrows_lasts (StandsFor j) mid new looks.narrows);
   stable = λ each r v. lasts_on (Holds j r v) old mid new (a.stable each r v) looks.runs (narrows_lasts (Holds j r v) mid new looks.narrows);
 }
 
@@ -220,6 +233,8 @@ mark_creates j s result old new call turns safe reads = record {
   none = lasts_call (λ _. ⊥) result old new call (turns_keeps (λ _. ⊥) (Torn 0 1) old new turns (λ d c s p. p));
   since = λ each. each_since_call (IsFresh j s) result old new call (λ c is. laid_fresh j s c (safe_each (IsLaid j s) old safe reads c is))
       (λ c is. let from = turns.images c is in mark_fresh j s from.0 c from.2 (safe_each (IsLaid j s) old safe reads from.0 from.1));
+  begun = λ each. lasts_call (StandsFor j) result old new call (λ stands c is. let from = turns.images c is in
+      absurd (each from.0 from.1 (begun j (stands from.0 from.1).slots from.0 (stands from.0 from.1).stands)));
   stable = λ each r v. lasts_call (Holds j r v) result old new call (λ held c is. let from = turns.images c is in
       absurd (each from.0 from.1 (begun j (held from.0 from.1).slots from.0 (held from.0 from.1).stands)));
 }

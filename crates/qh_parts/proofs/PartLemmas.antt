@@ -1,5 +1,5 @@
 -- What the writes of a store do to a disk.
-use Rattle.std.proofs.Common.{◌≢◌, ◌≡◌, ◌<◌, ◌⊎◌, ℕ, ◌+◌, ◌*◌, ◌≤◌, List, [], ◌∷◌, length, replicate, set, get_or, Some, Result, Ok, Err, sym, ap, subst, ◌∙◌, arith}
+use Rattle.std.proofs.Common.{◌≢◌, ◌≡◌, ◌<◌, ◌⊎◌, ℕ, ◌+◌, ◌≤◌, List, [], ◌∷◌, length, set, get_or, Some, Result, Ok, Err, sym, ap, subst, ◌∙◌, arith}
 use Rattle.std.proofs.lemmas.List.{places, ext_get_or}
 use Rattle.std.specs.Prelude.{OnOk}
 use Rattle.qh_plan.specs.declared.verdict.Verdict.{Verdict}
@@ -10,16 +10,17 @@ use Rattle.qh_disk.specs.Disk.{Face, IsImage, Reads, Becomes, overwritten, Torn,
 use Rattle.qh_disk.specs.Moments.{EachImage, Lasts}
 use Rattle.qh_disk.specs.Looks.{Looks}
 use Rattle.qh_disk.specs.declared.failed.Failed.{Failed}
-use Rattle.qh_disk.proofs.Moments.{lasts_call, lasts_on, runs_call, runs_on}
+use Rattle.qh_disk.proofs.Moments.{lasts_same, lasts_call, lasts_on, runs_same, runs_call, runs_on}
 use Rattle.qh_disk.proofs.Looking.{narrows_lasts}
 use Rattle.qh_disk.proofs.Rules.{overwritten_inside, overwritten_torn, told_before}
 use Rattle.qh_slots.specs.Layout.{mark, head, place, part, body_size}
 use Rattle.qh_slots.specs.Slots.{spelled}
 use Rattle.qh_slots.specs.Stands.{Slots, Stands, Made, Holds, Shut, Behind}
+use Rattle.qh_record.specs.Moments.{StandsFor, GoesOn}
 use Rattle.qh_parts.specs.Sparing.{Spares}
 use Rattle.qh_slots.proofs.SpellingLemmas.{spelled_size}
 use Rattle.qh_slots.proofs.PlaceLemmas.{apart}
-use Rattle.qh_parts.proofs.StepLemmas.{body_step, body_shut, body_holds, body_made, gate_either, gate_holds, gate_made, gate_open, gate_holds_it, shut_here, body_other_shut, body_other_behind, gate_other_behind}
+use Rattle.qh_parts.proofs.StepLemmas.{body_step, body_shut, body_begun, body_holds, body_goes, body_made, gate_either, gate_begun, gate_holds, gate_goes, gate_made, gate_open, gate_holds_it, shut_here, body_other_shut, body_other_behind, gate_other_behind}
 
 -- ---- what holds where a call succeeds
 pub on_ok : (result : Result (Unit {0}) Failed) (A B : Type 0) → (A → B) → OnOk result A → OnOk result B
@@ -34,11 +35,15 @@ on_always (Err e) B b = tt
 pub turns_at : (k m a n : ℕ) (old new : Face) → k ≡ a → m ≡ n → Turns (Torn k m) old new → Turns (Torn a n) old new
 turns_at k m a n old new ek em turns = subst (λ (x : ℕ). Turns (Torn x n) old new) ek (subst (λ (y : ℕ). Turns (Torn k y) old new) em turns)
 
--- ---- spares: a sync, one run after another
+-- ---- spares, and a family beside it: no call, a sync, one run after another
+pub spares_same : (j : Job) (d : Face) → Spares j d d
+spares_same j d = record { runs = runs_same d; none = lasts_same (λ _. ⊥) d; begun = lasts_same (StandsFor j) d; stable = λ r v. lasts_same (Holds j r v) d }
+
 pub spares_looks : (j : Job) (old new : Face) → Looks old new → Spares j old new
 spares_looks j old new looks = record {
   runs = looks.runs;
   none = narrows_lasts (λ _. ⊥) old new looks.narrows;
+  begun = narrows_lasts (StandsFor j) old new looks.narrows;
   stable = λ r v. narrows_lasts (Holds j r v) old new looks.narrows;
 }
 
@@ -49,11 +54,19 @@ pub spares_on : (j : Job) (old mid new : Face) → Spares j old mid → Spares j
 spares_on j old mid new a b = record {
   runs = runs_on old mid new a.runs b.runs;
   none = lasts_on (λ _. ⊥) old mid new a.none b.runs b.none;
+  begun = lasts_on (StandsFor j) old mid new a.begun b.runs b.begun;
   stable = λ r v. lasts_on (Holds j r v) old mid new (a.stable r v) b.runs (b.stable r v);
 }
 
 pub made_on : (j : Job) (old mid new : Face) → Spares j old mid → Lasts (Made j) old mid → Spares j mid new → Lasts (Made j) mid new → Lasts (Made j) old new
 made_on j old mid new a x b y = lasts_on (Made j) old mid new x b.runs y
+
+pub goes_looks : (j : Job) (s0 : Slots) (old new : Face) → Looks old new → Lasts (GoesOn j s0) old new
+goes_looks j s0 old new looks = narrows_lasts (GoesOn j s0) old new looks.narrows
+
+pub goes_on : (j : Job) (s0 : Slots) (old mid new : Face) → Spares j old mid → Lasts (GoesOn j s0) old mid → Spares j mid new → Lasts (GoesOn j s0) mid new
+    → Lasts (GoesOn j s0) old new
+goes_on j s0 old mid new a x b y = lasts_on (GoesOn j s0) old mid new x b.runs y
 
 pub part_overwritten : (at n : ℕ) (bytes f : List ℕ) → n ≡ length bytes → at + length bytes ≤ length f → part at n (overwritten at bytes f) ≡ bytes
 part_overwritten at n bytes f is le = ext_get_or 0 (part at n (overwritten at bytes f)) bytes (grind (arith, places)) (λ i low. grind (arith, places))
@@ -78,11 +91,16 @@ module _ (j : Job) (is : IsJob j) (r : ℕ) (low : r < ranges j) (old new : Face
     body_spares result call = record {
       runs = runs_call result old new call;
       none = lasts_call (λ _. ⊥) result old new call (body_keeps (λ _. ⊥) (λ d c torn s p. p));
+      begun = lasts_call (StandsFor j) result old new call (body_keeps (StandsFor j) (λ d c torn s p. body_begun j is r low d c torn s p));
       stable = λ q w. lasts_call (Holds j q w) result old new call (body_keeps (Holds j q w) (λ d c torn s p. body_holds j is r low d c torn s q w p));
     }
 
     pub body_lasts_made : {T : Type 0} (result : Result T Failed) → Calls result old new → Lasts (Made j) old new
     body_lasts_made result call = lasts_call (Made j) result old new call (body_keeps (Made j) (λ d c torn s p. body_made j is r low d c torn s p))
+
+    pub body_lasts_goes : {T : Type 0} (result : Result T Failed) → Calls result old new → (s0 : Slots) → Lasts (GoesOn j s0) old new
+    body_lasts_goes result call s0 = lasts_call (GoesOn j s0) result old new call (body_keeps (GoesOn j s0)
+        (λ d c torn s p. body_goes j is r low d c s0 torn s p))
 
     pub body_kept : Reads old (IsImage old) → (s : Slots) → Reads old (Stands j s) → Reads new (Stands j s)
     body_kept current s reads c told =
@@ -121,11 +139,16 @@ module _ (j : Job) (is : IsJob j) (r : ℕ) (low : r < ranges j) (old new : Face
     gate_spares result call = record {
       runs = runs_call result old new call;
       none = lasts_call (λ _. ⊥) result old new call (gate_keeps (λ _. ⊥) (λ d c torn s p. p));
+      begun = lasts_call (StandsFor j) result old new call (gate_keeps (StandsFor j) (λ d c torn s p. gate_begun j is r low d c v torn s p));
       stable = λ q w. lasts_call (Holds j q w) result old new call (gate_keeps (Holds j q w) (λ d c torn s p. gate_holds j is r low d c v torn s q w p));
     }
 
     pub gate_lasts_made : {T : Type 0} (result : Result T Failed) → Calls result old new → v ≡ range_value j r → Lasts (Made j) old new
     gate_lasts_made result call is_true = lasts_call (Made j) result old new call (gate_keeps (Made j) (λ d c torn s p. gate_made j is r low d c v is_true torn s p))
+
+    pub gate_lasts_goes : {T : Type 0} (result : Result T Failed) → Calls result old new → v ≡ range_value j r → (s0 : Slots) → Lasts (GoesOn j s0) old new
+    gate_lasts_goes result call is_true s0 = lasts_call (GoesOn j s0) result old new call (gate_keeps (GoesOn j s0)
+        (λ d c torn s p. gate_goes j is r low d c v is_true s0 torn s p))
 
     pub gate_reads_either : Reads old (IsImage old) → (s : Slots) → Reads old (Stands j s) → Reads new (λ f. Stands j s f ⊎ Stands j (set s r (Some v)) f)
     gate_reads_either current s reads c told =

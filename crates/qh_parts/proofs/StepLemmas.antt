@@ -1,5 +1,5 @@
 -- What one torn write leaves of a journal.
-use Rattle.std.proofs.Common.{◌≡◌, ◌≢◌, ◌<◌, ◌⊎◌, inl, inr, ℕ, ◌+◌, ◌≤◌, List, length, take, set, get_or, Option, Some, None, refl, sym, ap, subst, ◌∙◌, arith}
+use Rattle.std.proofs.Common.{◌≡◌, ◌≢◌, ◌<◌, ◌⊎◌, inl, inr, ℕ, ◌+◌, ◌≤◌, List, [], length, take, set, get_or, Option, Some, None, refl, sym, ap, subst, ◌∙◌, arith}
 use Rattle.std.proofs.lemmas.Bool.{cases_eq, cases_lt}
 use Rattle.std.proofs.lemmas.List.{places, ext_get_or, length-set, get_or-set_same, get_or-set_other, get_or-take}
 use Rattle.qh_plan.specs.declared.verdict.Verdict.{Verdict}
@@ -9,7 +9,9 @@ use Rattle.qh_meaning.specs.Values.{range_value}
 use Rattle.qh_disk.specs.Disk.{Torn}
 use Rattle.qh_slots.specs.Layout.{mark, head, place, part, slot_size, body_size, body}
 use Rattle.qh_slots.specs.Slots.{SlotIs, spelled}
-use Rattle.qh_slots.specs.Stands.{Slots, slot_at, Stands, Made, Holds, Shut, Behind}
+use Rattle.qh_slots.specs.Stands.{Slots, slot_at, Stands, StandsTrue, Made, Holds, Shut, Behind}
+use Rattle.qh_record.specs.Record.{Extends}
+use Rattle.qh_record.specs.Moments.{StandsFor, GoesOn}
 use Rattle.qh_slots.proofs.StandLemmas.{one_list, head_size, head_named}
 use Rattle.qh_slots.proofs.PlaceLemmas.{place_start, apart}
 
@@ -80,6 +82,20 @@ pub gate_open : (j : Job) (r : ℕ) (v : Verdict) (s : Slots) (d c : List ℕ) �
 gate_open j r v s d c low torn was rest fits is_open = stands_torn j r (place (head j) j r) 1 s (set s r (Some v)) d c torn (gate_within j r) was (length-set s r (Some v)) (λ q ne. get_or-set_other s r q (Some v) None ne)
     (subst (SlotIs (head j) j r c) (sym (get_or-set_same s r (Some v) None (below_count j r s d low was))) (is_open, part_torn (place (head j) j r) 1 (place (head j) j r + 1) (body_size j) d c torn (inr (omega arith)) ∙ rest, fits))
 
+-- ---- true slots are those that go on from none
+pub true_goes : (j : Job) (f : List ℕ) → StandsTrue j f → GoesOn j [] f
+true_goes j f was = record {
+  slots = was.slots;
+  stands = was.stands;
+  extends = record { kept = λ q w held. absurd (nothing w held); added = λ q w none held. was.true_slots q w held };
+}
+  where
+    nothing : (w : Verdict) → None ≡ Some w → ⊥
+    nothing w e = cc
+
+pub goes_true : (j : Job) (f : List ℕ) → GoesOn j [] f → StandsTrue j f
+goes_true j f was = record { slots = was.slots; stands = was.stands; true_slots = λ q w held. was.extends.added q w refl held }
+
 -- ---- the families
 pub begun : (j : Job) (s : Slots) (f : List ℕ) → Stands j s f → get_or f 0 0 ≡ mark
 begun j s f stands = let n = head_size j in sym (get_or-take (length (head j)) f 0 0 (omega arith)) ∙ ap (λ (l : List ℕ). get_or l 0 0) stands.begins ∙ (head_named j).0
@@ -95,9 +111,19 @@ module _ (j : Job) (is : IsJob j) (r : ℕ) (low : r < ranges j) (d c : List ℕ
   pub body_holds : Torn (place (head j) j r + 1) (body_size j) d c → Shut j r d → (q : ℕ) (w : Verdict) → Holds j q w d → Holds j q w c
   body_holds torn shut q w was = record { slots = was.slots; stands = body_step j r was.slots d c low torn was.stands (shut_here shut was.slots was.stands); held = was.held }
 
+  pub body_begun : Torn (place (head j) j r + 1) (body_size j) d c → Shut j r d → StandsFor j d → StandsFor j c
+  body_begun torn shut was = record { slots = was.slots; stands = body_step j r was.slots d c low torn was.stands (shut_here shut was.slots was.stands) }
+
+  pub body_goes : (s0 : Slots) → Torn (place (head j) j r + 1) (body_size j) d c → Shut j r d → GoesOn j s0 d → GoesOn j s0 c
+  body_goes s0 torn shut was = record {
+    slots = was.slots;
+    stands = body_step j r was.slots d c low torn was.stands (shut_here shut was.slots was.stands);
+    extends = was.extends;
+  }
+
   pub body_made : Torn (place (head j) j r + 1) (body_size j) d c → Shut j r d → Made j d → Made j c
   body_made torn shut (inl closed) = absurd (closed (begun j shut.slots d shut.stands))
-  body_made torn shut (inr was) = inr (record { slots = was.slots; stands = body_step j r was.slots d c low torn was.stands (shut_here shut was.slots was.stands); true_slots = was.true_slots })
+  body_made torn shut (inr was) = inr (goes_true j c (body_goes [] torn shut (true_goes j d was)))
 
   gate_cases : (get_or c (place (head j) j r) 0 ≡ mark) ⊎ (get_or c (place (head j) j r) 0 ≡ mark → ⊥)
   gate_cases = cases_eq (get_or c (place (head j) j r) 0) mark
@@ -117,21 +143,40 @@ module _ (j : Job) (is : IsJob j) (r : ℕ) (low : r < ranges j) (d c : List ℕ
       other : q ≢ r
       other same = let none : slot_at was.slots q ≡ None = ap (slot_at was.slots) same ∙ shut_here behind.shut was.slots was.stands in let some = was.held in absurd cc
 
-  pub gate_made : (v : Verdict) → v ≡ range_value j r → Torn (place (head j) j r) 1 d c → Behind j r v d → Made j d → Made j c
-  gate_made v is_true torn behind (inl closed) = absurd (closed (begun j behind.shut.slots d behind.shut.stands))
-  gate_made v is_true torn behind (inr was) = inr (elim (gate_either v torn behind was.slots was.stands) [
-    | inl still ↦ record { slots = was.slots; stands = still; true_slots = was.true_slots }
+  pub gate_begun : (v : Verdict) → Torn (place (head j) j r) 1 d c → Behind j r v d → StandsFor j d → StandsFor j c
+  gate_begun v torn behind was = elim (gate_either v torn behind was.slots was.stands) [
+    | inl still ↦ record { slots = was.slots; stands = still }
+    | inr now ↦ record { slots = set was.slots r (Some v); stands = now }
+  ]
+
+  -- one slot more, which holds its range's value
+  extends_more : (v : Verdict) → v ≡ range_value j r → (s0 s : Slots) → r < length s → slot_at s r ≡ None → Extends j s0 s → Extends j s0 (set s r (Some v))
+  extends_more v is_true s0 s inside shut was = record {
+    kept = λ q w held. get_or-set_other s r q (Some v) None (other q w held) ∙ was.kept q w held;
+    added = λ q w none held. elim (cases_eq q r) [
+      | inl same ↦
+          let here : slot_at (set s r (Some v)) q ≡ Some v = ap (slot_at (set s r (Some v))) same ∙ get_or-set_same s r (Some v) None inside in
+          let one : w ≡ v = cc in one ∙ is_true ∙ ap (range_value j) (sym same)
+      | inr ne ↦ was.added q w none (sym (get_or-set_other s r q (Some v) None ne) ∙ held)
+    ];
+  }
+    where
+      other : (q : ℕ) (w : Verdict) → slot_at s0 q ≡ Some w → q ≢ r
+      other q w held same = let some : slot_at s q ≡ Some w = was.kept q w held in let none : slot_at s q ≡ None = ap (slot_at s) same ∙ shut in absurd cc
+
+  pub gate_goes : (v : Verdict) → v ≡ range_value j r → (s0 : Slots) → Torn (place (head j) j r) 1 d c → Behind j r v d → GoesOn j s0 d → GoesOn j s0 c
+  gate_goes v is_true s0 torn behind was = elim (gate_either v torn behind was.slots was.stands) [
+    | inl still ↦ record { slots = was.slots; stands = still; extends = was.extends }
     | inr now ↦ record {
       slots = set was.slots r (Some v);
       stands = now;
-      true_slots = λ q w held. elim (cases_eq q r) [
-        | inl same ↦
-            let here : slot_at (set was.slots r (Some v)) q ≡ Some v = ap (slot_at (set was.slots r (Some v))) same ∙ get_or-set_same was.slots r (Some v) None (below_count j r was.slots d low was.stands) in
-            let one : w ≡ v = cc in one ∙ is_true ∙ ap (range_value j) (sym same)
-        | inr ne ↦ was.true_slots q w (sym (get_or-set_other was.slots r q (Some v) None ne) ∙ held)
-      ];
+      extends = extends_more v is_true s0 was.slots (below_count j r was.slots d low was.stands) (shut_here behind.shut was.slots was.stands) was.extends;
     }
-  ])
+  ]
+
+  pub gate_made : (v : Verdict) → v ≡ range_value j r → Torn (place (head j) j r) 1 d c → Behind j r v d → Made j d → Made j c
+  gate_made v is_true torn behind (inl closed) = absurd (closed (begun j behind.shut.slots d behind.shut.stands))
+  gate_made v is_true torn behind (inr was) = inr (goes_true j c (gate_goes v is_true [] torn behind (true_goes j d was)))
 
   -- a gate that is written whole
   pub gate_holds_it : (v : Verdict) → Torn (place (head j) j r) 1 d c → Behind j r v d → get_or c (place (head j) j r) 0 ≡ mark → Holds j r v c

@@ -3,11 +3,12 @@ use Rattle.std.specs.Prelude.{◌≡◌, ◌≢◌, ◌⊎◌, ◌<◌, ◌≤�
 use Rattle.std.proofs.Common.{get_or}
 use Rattle.qh_plan.specs.declared.verdict.Verdict.{Verdict}
 use Rattle.qh_plan.specs.Jobs.{Job, ranges}
-use Rattle.qh_disk.specs.Disk.{Face}
+use Rattle.qh_disk.specs.Disk.{Face, IsImage}
 use Rattle.qh_disk.specs.Moments.{EachImage, EachImageSince, Runs, Lasts}
 use Rattle.qh_slots.specs.Layout.{mark, head, place}
 use Rattle.qh_slots.specs.Slots.{SlotIs}
 use Rattle.qh_slots.specs.Stands.{Slots, slot_at, Stands, Made, Holds}
+use Rattle.qh_record.specs.Moments.{StandsFor}
 
 -- its header is closed; so is that of the empty file
 abbrev pub IsUnbegun : List ℕ → Type 0
@@ -36,16 +37,19 @@ pub record StaysClosed (old new : Face) : Type 0 where
   pub none : Lasts (λ _. ⊥) old new
   pub closed : EachImage old IsUnbegun → EachImageSince old.clock new IsUnbegun
 
--- Some calls over a file that is not begun: each image is not begun, or the journal with these slots, and what is stable stays stable.
+-- Some calls over a file that is not begun: each image is not begun, or the journal with these slots, and what is stable stays stable, and a file
+-- that stands for the job goes on doing so.
 pub record Creates (j : Job) (s : Slots) (old new : Face) : Type 0 where
   pub runs : Runs old new
   pub none : Lasts (λ _. ⊥) old new
   pub since : EachImage old IsUnbegun → EachImageSince old.clock new (IsFresh j s)
+  pub begun : EachImage old IsUnbegun → Lasts (StandsFor j) old new
   pub stable : EachImage old IsUnbegun → (r : ℕ) (v : Verdict) → Lasts (Holds j r v) old new
 
--- Some calls of a wipe: what was made by runs of a job stays so, and the empty file stays empty.
+-- Some calls of a wipe: each image was one before, or is not begun; what was made by runs of a job stays so, and the empty file stays empty.
 pub record Wipes (old new : Face) : Type 0 where
   pub runs : Runs old new
   pub none : Lasts (λ _. ⊥) old new
+  pub since : EachImageSince old.clock new (λ c. IsImage old c ⊎ IsUnbegun c)
   pub made : (j : Job) → Lasts (Made j) old new
   pub empty : Lasts (λ f. f ≡ []) old new

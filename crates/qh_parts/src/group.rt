@@ -8,6 +8,7 @@ ghost use Rattle.qh_disk.specs.Disk.{IsSafe, Reads};
 ghost use Rattle.qh_disk.specs.Moments.{EachImage, Lasts};
 ghost use Rattle.qh_slots.specs.Layout.{head, place, body_size};
 ghost use Rattle.qh_slots.specs.Stands.{Slots, Stands, Made, Holds, Shut, Behind};
+ghost use Rattle.qh_record.specs.Moments.{GoesOn};
 ghost use Rattle.qh_parts.specs.Sparing.{Spares};
 ghost use Rattle.qh_parts.specs.Groups.{AreValues, IsGroup, StandsPartly, filled, range_of, member_of};
 
@@ -37,6 +38,7 @@ pub(crate) fn write_bodies<D: Disk>(
     ensures kept { (s : Slots) → Reads (D.face disk.old) (Stands job.now s) → Reads (D.face disk.new) (Stands job.now s) }
     ensures spares { Spares job.now (D.face disk.old) (D.face disk.new) }
     ensures made { Lasts (Made job.now) (D.face disk.old) (D.face disk.new) }
+    ensures goes_on { (s : Slots) → Lasts (GoesOn job.now s) (D.face disk.old) (D.face disk.new) }
     ensures size { length body.new ≡ body_size job.now }
     ensures same { D.loans disk.new ≡ D.loans disk.old }
     ensures rose { OnErr result (Rose (D.face disk.old).faults (D.face disk.new).faults) }
@@ -69,6 +71,7 @@ pub(crate) fn open_gates<D: Disk>(
     ensures partly { (s : Slots) → Reads (D.face disk.old) (Stands job.now s) → Reads (D.face disk.new) (StandsPartly job.now s group.now) }
     ensures spares { Spares job.now (D.face disk.old) (D.face disk.new) }
     ensures made { AreValues job.now group.now → Lasts (Made job.now) (D.face disk.old) (D.face disk.new) }
+    ensures goes_on { AreValues job.now group.now → (s : Slots) → Lasts (GoesOn job.now s) (D.face disk.old) (D.face disk.new) }
     ensures same { D.loans disk.new ≡ D.loans disk.old }
     ensures rose { OnErr result (Rose (D.face disk.old).faults (D.face disk.new).faults) }
     ensures count { IfErr result (λ e. e.faults ≡ (D.face disk.new).faults) }
@@ -99,6 +102,7 @@ fn keep_bodies<D: Disk>(
     ensures kept { (s : Slots) → Reads (D.face disk.old) (Stands job.now s) → Reads (D.face disk.new) (Stands job.now s) }
     ensures spares { Spares job.now (D.face disk.old) (D.face disk.new) }
     ensures made { Lasts (Made job.now) (D.face disk.old) (D.face disk.new) }
+    ensures goes_on { (s : Slots) → Lasts (GoesOn job.now s) (D.face disk.old) (D.face disk.new) }
     ensures size { length body.new ≡ body_size job.now }
     ensures same { D.loans disk.new ≡ D.loans disk.old }
     ensures rose { OnErr result (Rose (D.face disk.old).faults (D.face disk.new).faults) }
@@ -121,6 +125,7 @@ fn keep_gates<D: Disk>(disk: &mut D, job: &Job, start: u64, group: &[Member]) ->
     ensures partly { (s : Slots) → Reads (D.face disk.old) (Stands job.now s) → Reads (D.face disk.new) (StandsPartly job.now s group.now) }
     ensures spares { Spares job.now (D.face disk.old) (D.face disk.new) }
     ensures made { AreValues job.now group.now → Lasts (Made job.now) (D.face disk.old) (D.face disk.new) }
+    ensures goes_on { AreValues job.now group.now → (s : Slots) → Lasts (GoesOn job.now s) (D.face disk.old) (D.face disk.new) }
     ensures same { D.loans disk.new ≡ D.loans disk.old }
     ensures rose { OnErr result (Rose (D.face disk.old).faults (D.face disk.new).faults) }
     ensures count { IfErr result (λ e. e.faults ≡ (D.face disk.new).faults) }
@@ -149,6 +154,7 @@ pub fn store_group<D: Disk>(
     ensures partly { (s : Slots) → Reads (D.face disk.old) (Stands job.now s) → Reads (D.face disk.new) (StandsPartly job.now s group.now) }
     ensures spares { Spares job.now (D.face disk.old) (D.face disk.new) }
     ensures made { AreValues job.now group.now → Lasts (Made job.now) (D.face disk.old) (D.face disk.new) }
+    ensures goes_on { AreValues job.now group.now → (s : Slots) → Lasts (GoesOn job.now s) (D.face disk.old) (D.face disk.new) }
     ensures size { length body.new ≡ body_size job.now }
     ensures same { D.loans disk.new ≡ D.loans disk.old }
     ensures rose { OnErr result (Rose (D.face disk.old).faults (D.face disk.new).faults) }

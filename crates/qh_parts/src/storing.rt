@@ -10,6 +10,7 @@ ghost use Rattle.qh_disk.specs.Moments.{EachImage, Lasts};
 ghost use Rattle.qh_slots.specs.Layout.{head, place};
 ghost use Rattle.qh_slots.specs.Slots.{spelled};
 ghost use Rattle.qh_slots.specs.Stands.{Slots, slot_at, Stands, Made, Holds, Shut, Behind};
+ghost use Rattle.qh_record.specs.Moments.{GoesOn};
 ghost use Rattle.qh_parts.specs.Sparing.{Spares};
 
 use crate::reading::settle;
@@ -40,6 +41,7 @@ pub(crate) fn write_body<D: Disk>(
     ensures kept { (s : Slots) → Reads (D.face disk.old) (Stands job.now s) → Reads (D.face disk.new) (Stands job.now s) }
     ensures spares { Spares job.now (D.face disk.old) (D.face disk.new) }
     ensures made { Lasts (Made job.now) (D.face disk.old) (D.face disk.new) }
+    ensures goes_on { (s : Slots) → Lasts (GoesOn job.now s) (D.face disk.old) (D.face disk.new) }
     ensures same { D.loans disk.new ≡ D.loans disk.old }
     ensures rose { OnErr result (Rose (D.face disk.old).faults (D.face disk.new).faults) }
     ensures count { IfErr result (λ e. e.faults ≡ (D.face disk.new).faults) }
@@ -67,6 +69,7 @@ pub(crate) fn write_gate<D: Disk>(
     ensures either { (s : Slots) → Reads (D.face disk.old) (Stands job.now s) → Reads (D.face disk.new) (λ f. Stands job.now s f ⊎ Stands job.now (set s range (Some verdict.now)) f) }
     ensures spares { Spares job.now (D.face disk.old) (D.face disk.new) }
     ensures made { verdict.now ≡ range_value job.now range → Lasts (Made job.now) (D.face disk.old) (D.face disk.new) }
+    ensures goes_on { verdict.now ≡ range_value job.now range → (s : Slots) → Lasts (GoesOn job.now s) (D.face disk.old) (D.face disk.new) }
     ensures same { D.loans disk.new ≡ D.loans disk.old }
     ensures rose { OnErr result (Rose (D.face disk.old).faults (D.face disk.new).faults) }
     ensures count { IfErr result (λ e. e.faults ≡ (D.face disk.new).faults) }
@@ -95,6 +98,7 @@ fn keep_body<D: Disk>(
     ensures kept { (s : Slots) → Reads (D.face disk.old) (Stands job.now s) → Reads (D.face disk.new) (Stands job.now s) }
     ensures spares { Spares job.now (D.face disk.old) (D.face disk.new) }
     ensures made { Lasts (Made job.now) (D.face disk.old) (D.face disk.new) }
+    ensures goes_on { (s : Slots) → Lasts (GoesOn job.now s) (D.face disk.old) (D.face disk.new) }
     ensures same { D.loans disk.new ≡ D.loans disk.old }
     ensures rose { OnErr result (Rose (D.face disk.old).faults (D.face disk.new).faults) }
     ensures count { IfErr result (λ e. e.faults ≡ (D.face disk.new).faults) }
@@ -123,6 +127,7 @@ fn open_gate<D: Disk>(
     ensures either { (s : Slots) → Reads (D.face disk.old) (Stands job.now s) → Reads (D.face disk.new) (λ f. Stands job.now s f ⊎ Stands job.now (set s range (Some verdict.now)) f) }
     ensures spares { Spares job.now (D.face disk.old) (D.face disk.new) }
     ensures made { verdict.now ≡ range_value job.now range → Lasts (Made job.now) (D.face disk.old) (D.face disk.new) }
+    ensures goes_on { verdict.now ≡ range_value job.now range → (s : Slots) → Lasts (GoesOn job.now s) (D.face disk.old) (D.face disk.new) }
     ensures same { D.loans disk.new ≡ D.loans disk.old }
     ensures rose { OnErr result (Rose (D.face disk.old).faults (D.face disk.new).faults) }
     ensures count { IfErr result (λ e. e.faults ≡ (D.face disk.new).faults) }
@@ -154,6 +159,7 @@ pub fn store<D: Disk>(
     ensures either { (s : Slots) → Reads (D.face disk.old) (Stands job.now s) → Reads (D.face disk.new) (λ f. Stands job.now s f ⊎ Stands job.now (set s range (Some verdict.now)) f) }
     ensures spares { Spares job.now (D.face disk.old) (D.face disk.new) }
     ensures made { verdict.now ≡ range_value job.now range → Lasts (Made job.now) (D.face disk.old) (D.face disk.new) }
+    ensures goes_on { verdict.now ≡ range_value job.now range → (s : Slots) → Lasts (GoesOn job.now s) (D.face disk.old) (D.face disk.new) }
     ensures same { D.loans disk.new ≡ D.loans disk.old }
     ensures rose { OnErr result (Rose (D.face disk.old).faults (D.face disk.new).faults) }
     ensures count { IfErr result (λ e. e.faults ≡ (D.face disk.new).faults) }

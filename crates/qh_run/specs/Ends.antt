@@ -25,15 +25,10 @@ answer_of (Refused why) = None
 answer_of (OldRefused why) = None
 answer_of Memory = None
 
--- each sum of an answer is within 126 bits
-abbrev pub IsBounded : Verdict → Type 0
-IsBounded (Sum sums) = All (IsWithin coefficient_bits) sums
-IsBounded (OverPath path) = Unit {0}
-
--- an answer has a sum for each asked bitstring
-abbrev pub HasAll : Job → Verdict → Type 0
-HasAll j (Sum sums) = length sums ≡ length j.bits
-HasAll j (OverPath path) = Unit {0}
+-- an answer has a sum for each asked bitstring, within 126 bits
+abbrev pub IsBounded : Job → Verdict → Type 0
+IsBounded j (Sum sums) = (length sums ≡ length j.bits) × All (IsWithin coefficient_bits) sums
+IsBounded j (OverPath path) = Unit {0}
 
 -- no old journal that is to be taken over tells that it is refused
 abbrev pub AcceptsOld : Keeping → Job → Face → Face → Type 0

@@ -6,7 +6,11 @@
 #![tactic(auto)]
 
 mod ended;
+mod over;
+mod ranges;
 mod run;
+mod stop;
+mod worker;
 
 pub use ended::{Ran, RunEnd};
 pub use run::{run_kept, run_unkept};

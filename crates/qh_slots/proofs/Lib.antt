@@ -5,3 +5,4 @@ pub mod ReadLemmas
 pub mod ByteLemmas
 pub mod StandLemmas
 pub mod PlaceLemmas
+pub mod OwnerLemmas

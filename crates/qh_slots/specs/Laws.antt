@@ -28,3 +28,7 @@ ClosedLaw = (j : Job) (f : List ℕ) → get_or f 0 0 ≢ mark → slots_of j f 
 
 abbrev pub ClosedLaw1 : Type 0
 ClosedLaw1 = (j : Job) (f : List ℕ) → get_or f 0 0 ≢ mark → slots1_of j f ≡ nones j
+
+-- a file stands for one job at most
+abbrev pub OneOwnerLaw : Type 0
+OneOwnerLaw = (i j : Job) → IsJob i → IsJob j → (s t : Slots) (f : List ℕ) → Stands i s f → Stands j t f → i ≡ j

@@ -1,5 +1,5 @@
 //! Laws between the definitions, each the contract of a call that does nothing.
-ghost use Rattle.qh_slots.specs.Laws.{AttachesLaw, AttachesLaw1, ClosedLaw, ClosedLaw1, OneMapLaw, OneMapLaw1};
+ghost use Rattle.qh_slots.specs.Laws.{AttachesLaw, AttachesLaw1, ClosedLaw, ClosedLaw1, OneMapLaw, OneMapLaw1, OneOwnerLaw};
 
 /// A file stands for a job with one list of slots at most, in either format.
 pub fn one_map()
@@ -11,6 +11,11 @@ pub fn one_map()
 pub fn attaches()
     ensures format_2 { AttachesLaw }
     ensures format_1 { AttachesLaw1 }
+{}
+
+/// A file stands for one job at most.
+pub fn one_owner()
+    ensures { OneOwnerLaw }
 {}
 
 /// A file whose header is closed has no slot, in either format.

@@ -32,7 +32,7 @@ use Rattle.qh_record.specs.Keeps.{KeepsJournal, IsWhole}
 use Rattle.qh_record.proofs.StillLemmas.{value_at, no_slot, values_extend}
 use Rattle.qh_migrate.specs.Faults.{attach_of}
 use Rattle.qh_record.specs.Moments.{IsUnwritten}
-use Rattle.qh_run.specs.Ends.{answer_of, IsBounded, HasAll, AcceptsOld, MayEnd}
+use Rattle.qh_run.specs.Ends.{answer_of, IsBounded, AcceptsOld, MayEnd}
 use Rattle.qh_run.specs.declared.ended.RunEnd.{RunEnd}
 use Rattle.qh_run.specs.declared.ended.RunEnd.TheVariants.{Sums, Over as RunOver, Disk, OldDisk, Refused as RunRefused, OldRefused, Memory as RunMemory}
 use Rattle.qh_words.specs.declared.options.Options.{Options}
@@ -181,13 +181,8 @@ sums_are_asked j s is e =
     let fit : AllFit j = λ i k l m. none_over j s e _ (record { range = i; place = k; range_below = l; place_below = m; is = refl }) in
     sum_same s _ (sym e ∙ run_value_is j (has_cut j is) fit)
 
-pub unkept_printable : (j : Job) (a : Option Verdict) (s : List Omega) → IsJob j → a ≡ Some (Sum s) → IfSome a (λ answer. answer ≡ run_value j) → IfSome a IsBounded → IsPrintable j s
-unkept_printable j a s is e value bounded =
-    let same = sums_are_asked j s is (sym (subst (λ a. IfSome a (λ answer. answer ≡ run_value j)) e value)) in
-    record { count = ap (length {A = Omega}) same ∙ length-map j.bits (asked j); within = subst (λ a. IfSome a IsBounded) e bounded }
-
-pub kept_printable : (j : Job) (a : Option Verdict) (s : List Omega) → a ≡ Some (Sum s) → IfSome a (HasAll j) → IfSome a IsBounded → IsPrintable j s
-kept_printable j a s e sized bounded = record { count = subst (λ a. IfSome a (HasAll j)) e sized; within = subst (λ a. IfSome a IsBounded) e bounded }
+pub printable : (j : Job) (a : Option Verdict) (s : List Omega) → a ≡ Some (Sum s) → IfSome a (IsBounded j) → IsPrintable j s
+printable j a s e bounded = let b = subst (λ a. IfSome a (IsBounded j)) e bounded in record { count = b.0; within = b.1 }
 
 -- ---- stops
 no_end : (end : RunEnd) → IsSome (answer_of end) ⊎ (end ≡ RunMemory) → answer_of end ≡ None → (end ≡ RunMemory → ⊥) → ⊥

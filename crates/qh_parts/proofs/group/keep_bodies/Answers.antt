@@ -5,7 +5,7 @@ use Rattle.qh_disk.proofs.Moments.{safe_each}
 use Rattle.qh_disk.proofs.Looking.{looks_reads}
 use Rattle.qh_slots.specs.Stands.{Stands, Behind}
 use Rattle.qh_parts.specs.Groups.{range_of, member_of}
-use Rattle.qh_parts.proofs.PartLemmas.{on_ok, spares_on, spares_looks, made_on, made_looks}
+use Rattle.qh_parts.proofs.PartLemmas.{on_ok, spares_on, spares_looks, made_on, made_looks, goes_on, goes_looks}
 use Rattle.qh_parts.proofs.group.keep_bodies.Goals as goal
 
 pub returns-clause-behind : goal.returns-clause-behind
@@ -21,3 +21,7 @@ returns-clause-made g c = made_on _ _ _ _ c.write_bodies.ensures.spares c.write_
 
 pub returns-clause-kept : goal.returns-clause-kept
 returns-clause-kept g c s reads = looks_reads (Stands c.args.job.now s) _ _ c.settle.ensures.looks (c.write_bodies.ensures.kept s reads)
+
+pub returns-clause-goes_on : goal.returns-clause-goes_on
+returns-clause-goes_on g c s = goes_on _ s _ _ _ c.write_bodies.ensures.spares (c.write_bodies.ensures.goes_on s) (spares_looks _ _ _ c.settle.ensures.looks)
+    (goes_looks _ s _ _ c.settle.ensures.looks)

@@ -1,7 +1,6 @@
-use Rattle.std.proofs.Common.{◌≡◌, ◌≢◌, ◌<◌, ℕ, List, length, take, get_or, sym, ap, subst, ◌∙◌, arith, rules, refl, inl, inr}
+use Rattle.std.proofs.Common.{◌≡◌, ◌≢◌, ◌<◌, ℕ, List, length, take, get_or, sym, ap, subst, ◌∙◌, arith, rules, inl, inr}
 use Rattle.std.proofs.lemmas.Bool.{cases_eq}
 use Rattle.std.proofs.lemmas.List.{get_or_default, take_all}
-use Rattle.qh_plan.specs.declared.verdict.Verdict.{Verdict}
 use Rattle.qh_plan.specs.Jobs.{Job, ranges}
 use Rattle.qh_disk.specs.Disk.{Reads}
 use Rattle.qh_disk.specs.Moments.{EachImage}
@@ -9,7 +8,7 @@ use Rattle.qh_slots.specs.Stands.{Slots, Stands, Holds, Behind}
 use Rattle.qh_parts.specs.Groups.{AreValues, IsGroup, filled, range_of, member_of, unused}
 use Rattle.qh_parts.specs.declared.member.Member.{Member}
 use Rattle.qh_meaning.specs.Values.{range_value}
-use Rattle.qh_parts.proofs.PartLemmas.{spares_on, made_on}
+use Rattle.qh_parts.proofs.PartLemmas.{spares_on, made_on, goes_on}
 use Rattle.qh_parts.proofs.GroupLemmas.{filled_more, partly_from}
 use Rattle.qh_parts.proofs.PlaceLemmas.{at_place, below_room}
 use Rattle.qh_parts.proofs.group.open_gates.Goals as goal
@@ -87,6 +86,12 @@ returns-in_err-write_gate-clause-made g c values =
     made_on _ _ _ _ c.loop-member.invariant.spares (c.loop-member.invariant.made values) c.write_gate.ensures.spares
     (c.write_gate.ensures.made (item c.args.job.now c.args.group.now c.loop-member.member-index c.member-item.result values c.loop-member-test.true e))
 
+pub returns-in_err-write_gate-clause-goes_on : goal.returns-in_err-write_gate-clause-goes_on
+returns-in_err-write_gate-clause-goes_on g c values s =
+    let e = member_is c.args.group.now c.loop-member.member-index c.member-item.result c.loop-member-test.true c.member-item.is in
+    goes_on _ s _ _ _ c.loop-member.invariant.spares (c.loop-member.invariant.goes_on values s) c.write_gate.ensures.spares
+    (c.write_gate.ensures.goes_on (item c.args.job.now c.args.group.now c.loop-member.member-index c.member-item.result values c.loop-member-test.true e) s)
+
 pub loop-member-preserved : goal.loop-member-preserved
 loop-member-preserved g c =
     let i = c.loop-member.member-index in
@@ -105,5 +110,7 @@ loop-member-preserved g c =
       spares = spares_on _ _ _ _ c.loop-member.invariant.spares c.write_gate.ensures.spares;
       made = λ values. made_on _ _ _ _ c.loop-member.invariant.spares (c.loop-member.invariant.made values) c.write_gate.ensures.spares
           (c.write_gate.ensures.made (item c.args.job.now c.args.group.now i c.member-item.result values c.loop-member-test.true e));
+      goes_on = λ values s. goes_on _ s _ _ _ c.loop-member.invariant.spares (c.loop-member.invariant.goes_on values s) c.write_gate.ensures.spares
+          (c.write_gate.ensures.goes_on (item c.args.job.now c.args.group.now i c.member-item.result values c.loop-member-test.true e) s);
       same = c.write_gate.ensures.same ∙ c.loop-member.invariant.same;
     }

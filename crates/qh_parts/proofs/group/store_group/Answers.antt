@@ -2,7 +2,7 @@ use Rattle.qh_disk.specs.Disk.{Reads}
 use Rattle.qh_slots.specs.Stands.{Slots, Stands}
 use Rattle.qh_parts.specs.Groups.{filled}
 use Rattle.qh_parts.proofs.GroupLemmas.{partly_none}
-use Rattle.qh_parts.proofs.PartLemmas.{on_ok, spares_on, made_on}
+use Rattle.qh_parts.proofs.PartLemmas.{on_ok, spares_on, made_on, goes_on}
 use Rattle.qh_parts.proofs.group.store_group.Goals as goal
 
 pub returns-clause-spares : goal.returns-clause-spares
@@ -22,3 +22,7 @@ returns-clause-partly g c s reads = c.keep_gates.ensures.partly s (c.keep_bodies
 
 pub returns-in_err-keep_bodies-clause-partly : goal.returns-in_err-keep_bodies-clause-partly
 returns-in_err-keep_bodies-clause-partly g c s reads f told = partly_none c.args.job.now s c.args.group.now f (c.keep_bodies.ensures.kept s reads f told)
+
+pub returns-clause-goes_on : goal.returns-clause-goes_on
+returns-clause-goes_on g c values s = goes_on _ s _ _ _ c.keep_bodies.ensures.spares (c.keep_bodies.ensures.goes_on s) c.keep_gates.ensures.spares
+    (c.keep_gates.ensures.goes_on values s)

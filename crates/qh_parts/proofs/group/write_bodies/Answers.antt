@@ -1,7 +1,6 @@
-use Rattle.std.proofs.Common.{◌≡◌, ◌≢◌, ◌<◌, ℕ, List, length, get_or, sym, ap, subst, ◌∙◌, arith, rules, refl, inl, inr}
+use Rattle.std.proofs.Common.{◌≡◌, ◌≢◌, ◌<◌, ℕ, List, length, get_or, sym, ap, subst, ◌∙◌, arith, rules, inl, inr}
 use Rattle.std.proofs.lemmas.Bool.{cases_eq}
 use Rattle.std.proofs.lemmas.List.{get_or_default}
-use Rattle.qh_plan.specs.declared.verdict.Verdict.{Verdict}
 use Rattle.qh_plan.specs.Jobs.{Job, ranges}
 use Rattle.qh_plan.specs.Ranges.{Fits}
 use Rattle.qh_disk.specs.Disk.{Reads}
@@ -10,7 +9,7 @@ use Rattle.qh_slots.specs.Stands.{Shut, Behind}
 use Rattle.qh_slots.proofs.SpellingLemmas.{has_space}
 use Rattle.qh_parts.specs.Groups.{IsGroup, range_of, member_of, unused}
 use Rattle.qh_parts.specs.declared.member.Member.{Member}
-use Rattle.qh_parts.proofs.PartLemmas.{spares_on, made_on}
+use Rattle.qh_parts.proofs.PartLemmas.{spares_on, made_on, goes_on}
 use Rattle.qh_parts.proofs.PlaceLemmas.{at_place, below_room}
 use Rattle.qh_parts.proofs.group.write_bodies.Goals as goal
 
@@ -64,6 +63,10 @@ returns-in_err-write_body-clause-spares g c = spares_on _ _ _ _ c.loop-member.in
 pub returns-in_err-write_body-clause-made : goal.returns-in_err-write_body-clause-made
 returns-in_err-write_body-clause-made g c = made_on _ _ _ _ c.loop-member.invariant.spares c.loop-member.invariant.made c.write_body.ensures.spares c.write_body.ensures.made
 
+pub returns-in_err-write_body-clause-goes_on : goal.returns-in_err-write_body-clause-goes_on
+returns-in_err-write_body-clause-goes_on g c s = goes_on _ s _ _ _ c.loop-member.invariant.spares
+    (c.loop-member.invariant.goes_on s) c.write_body.ensures.spares (c.write_body.ensures.goes_on s)
+
 pub returns-in_err-write_body-clause-kept : goal.returns-in_err-write_body-clause-kept
 returns-in_err-write_body-clause-kept g c s reads = c.write_body.ensures.kept s (c.loop-member.invariant.kept s reads)
 
@@ -94,5 +97,7 @@ loop-member-preserved g c =
       kept = λ s reads. c.write_body.ensures.kept s (c.loop-member.invariant.kept s reads);
       spares = spares_on _ _ _ _ c.loop-member.invariant.spares c.write_body.ensures.spares;
       made = made_on _ _ _ _ c.loop-member.invariant.spares c.loop-member.invariant.made c.write_body.ensures.spares c.write_body.ensures.made;
+      goes_on = λ s. goes_on _ s _ _ _ c.loop-member.invariant.spares (c.loop-member.invariant.goes_on s) c.write_body.ensures.spares
+          (c.write_body.ensures.goes_on s);
       same = c.write_body.ensures.same ∙ c.loop-member.invariant.same;
     }

@@ -3,6 +3,7 @@ use Rattle.qh_disk.specs.Disk.{Reads}
 use Rattle.qh_disk.specs.Moments.{EachImage, Lasts}
 use Rattle.qh_slots.specs.Layout.{body_size}
 use Rattle.qh_slots.specs.Stands.{Slots, Stands, Made, Shut, Behind}
+use Rattle.qh_record.specs.Moments.{GoesOn}
 use Rattle.qh_parts.specs.Sparing.{Spares}
 use Rattle.qh_parts.specs.Groups.{range_of, member_of}
 use Rattle.qh_parts.proofs.group.write_bodies.Given as goal
@@ -15,5 +16,6 @@ invariant-loop-member g l = record {
   kept : (s : Slots) → Reads (g.D.Disk.face l.fn.disk) (Stands l.job s) → Reads (g.D.Disk.face l.disk) (Stands l.job s);
   spares : Spares l.job (g.D.Disk.face l.fn.disk) (g.D.Disk.face l.disk);
   made : Lasts (Made l.job) (g.D.Disk.face l.fn.disk) (g.D.Disk.face l.disk);
+  goes_on : (s : Slots) → Lasts (GoesOn l.job s) (g.D.Disk.face l.fn.disk) (g.D.Disk.face l.disk);
   same : g.D.Disk.loans l.disk ≡ g.D.Disk.loans l.fn.disk;
 }

@@ -1,7 +1,7 @@
 use Rattle.std.proofs.Common.{set, Some}
 use Rattle.qh_slots.specs.Stands.{Slots, Stands}
 use Rattle.qh_disk.specs.Disk.{Reads}
-use Rattle.qh_parts.proofs.PartLemmas.{on_ok, spares_on}
+use Rattle.qh_parts.proofs.PartLemmas.{on_ok, spares_on, goes_on}
 use Rattle.qh_parts.proofs.storing.store.Goals as goal
 
 pub returns-clause-opened : goal.returns-clause-opened
@@ -15,3 +15,7 @@ returns-clause-either g c s reads = c.open_gate.ensures.either s (c.keep_body.en
 
 pub returns-clause-spares : goal.returns-clause-spares
 returns-clause-spares g c = spares_on _ _ _ _ c.keep_body.ensures.spares c.open_gate.ensures.spares
+
+pub returns-clause-goes_on : goal.returns-clause-goes_on
+returns-clause-goes_on g c is_true s = goes_on _ s _ _ _ c.keep_body.ensures.spares (c.keep_body.ensures.goes_on s) c.open_gate.ensures.spares
+    (c.open_gate.ensures.goes_on is_true s)

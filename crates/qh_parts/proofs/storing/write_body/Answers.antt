@@ -6,7 +6,7 @@ use Rattle.qh_disk.specs.Disk.{Reads, Becomes, overwritten}
 use Rattle.qh_slots.specs.Layout.{head}
 use Rattle.qh_slots.specs.Stands.{Behind}
 use Rattle.qh_slots.proofs.PlaceLemmas.{apart}
-use Rattle.qh_parts.proofs.PartLemmas.{on_ok, turns_at, body_each_shut, body_others_shut, body_others_behind, body_spares, body_lasts_made, body_kept, body_behind}
+use Rattle.qh_parts.proofs.PartLemmas.{on_ok, turns_at, body_each_shut, body_others_shut, body_others_behind, body_spares, body_lasts_made, body_lasts_goes, body_kept, body_behind}
 use Rattle.qh_slots.proofs.SpellingLemmas.{spelled_size}
 use Rattle.qh_parts.proofs.storing.write_body.Goals as goal
 
@@ -34,6 +34,12 @@ pub returns-clause-made : goal.returns-clause-made
 returns-clause-made g c =
     let size = ap (λ (l : List ℕ). length l) c.requires.body ∙ spelled_size c.args.job.now c.args.range c.args.verdict.now c.requires.fits in
     body_lasts_made c.args.job.now c.requires.valid c.args.range c.requires.range (g.D.Disk.face c.args.disk.now) (g.D.Disk.face c.write_at.new.self)
+    (turns_at _ _ _ _ _ _ (ap (λ (n : ℕ). n + 1) c.requires.at) size c.write_at.ensures.torn) c.requires.shut c.write_at.result c.write_at.ensures.call
+
+pub returns-clause-goes_on : goal.returns-clause-goes_on
+returns-clause-goes_on g c =
+    let size = ap (λ (l : List ℕ). length l) c.requires.body ∙ spelled_size c.args.job.now c.args.range c.args.verdict.now c.requires.fits in
+    body_lasts_goes c.args.job.now c.requires.valid c.args.range c.requires.range (g.D.Disk.face c.args.disk.now) (g.D.Disk.face c.write_at.new.self)
     (turns_at _ _ _ _ _ _ (ap (λ (n : ℕ). n + 1) c.requires.at) size c.write_at.ensures.torn) c.requires.shut c.write_at.result c.write_at.ensures.call
 
 pub returns-clause-kept : goal.returns-clause-kept

@@ -5,7 +5,7 @@ use Rattle.qh_disk.specs.Disk.{Reads, Becomes, overwritten}
 use Rattle.qh_slots.specs.Layout.{mark, head}
 use Rattle.qh_slots.specs.Stands.{Slots, Stands, Holds}
 use Rattle.qh_slots.proofs.PlaceLemmas.{apart}
-use Rattle.qh_parts.proofs.PartLemmas.{on_ok, turns_at, gate_spares, gate_others_behind, gate_held, gate_lasts_made, gate_reads_either, gate_stored, gate_reads_opened}
+use Rattle.qh_parts.proofs.PartLemmas.{on_ok, turns_at, gate_spares, gate_others_behind, gate_held, gate_lasts_made, gate_lasts_goes, gate_reads_either, gate_stored, gate_reads_opened}
 use Rattle.qh_parts.proofs.storing.write_gate.Goals as goal
 
 pub write_at-requires : goal.write_at-requires
@@ -23,6 +23,12 @@ returns-clause-spares g c =
 pub returns-clause-made : goal.returns-clause-made
 returns-clause-made g c =
     gate_lasts_made c.args.job.now c.requires.valid c.args.range c.requires.range (g.D.Disk.face c.args.disk.now) (g.D.Disk.face c.write_at.new.self) c.args.verdict.now
+    (turns_at _ _ _ _ _ _ c.requires.at refl c.write_at.ensures.torn) c.requires.behind c.write_at.result c.write_at.ensures.call
+
+pub returns-clause-goes_on : goal.returns-clause-goes_on
+returns-clause-goes_on g c =
+    gate_lasts_goes c.args.job.now c.requires.valid c.args.range c.requires.range (g.D.Disk.face c.args.disk.now)
+    (g.D.Disk.face c.write_at.new.self) c.args.verdict.now
     (turns_at _ _ _ _ _ _ c.requires.at refl c.write_at.ensures.torn) c.requires.behind c.write_at.result c.write_at.ensures.call
 
 pub returns-clause-either : goal.returns-clause-either

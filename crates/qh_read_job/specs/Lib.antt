@@ -1,0 +1,2 @@
+-- The job that a file names, and why it names none.
+pub mod Naming
