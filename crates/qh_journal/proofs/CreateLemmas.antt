@@ -33,7 +33,12 @@ empty_unbegun : (d : Face) → EachImage d (λ f. f ≡ []) → EachImage d IsUn
 empty_unbegun d empty c is = zero_unbegun c (ap (λ (l : List ℕ). get_or l 0 0) (empty c is))
 
 creates_spares : (j : Job) (old new : Face) → Creates j (nones j) old new → EachImage old (λ f. f ≡ []) → Spares j old new
-creates_spares j old new creates empty = record { runs = creates.runs; none = creates.none; begun = creates.begun (empty_unbegun old empty); stable = creates.stable (empty_unbegun old empty) }
+creates_spares j old new creates empty = record {
+  runs = creates.runs;
+  none = creates.none;
+  begun = creates.begun (empty_unbegun old empty);
+  stable = creates.stable (empty_unbegun old empty);
+}
 
 creates_made : (j : Job) (old new : Face) → Creates j (nones j) old new → EachImage old (λ f. f ≡ []) → Lasts (Made j) old new
 creates_made j old new creates empty = record {

@@ -139,7 +139,8 @@ impl<D: Disk> Journal<D> {
         ensures err { OnErr result (self.new ≡ record { disk = self.new.disk; job = self.old.job; table = self.old.table; failed = true }) }
         ensures disk { Went (λ d e. Same D.face D.loans d e × Spares self.old.job (D.face d) (D.face e)) self.old.disk self.new.disk }
         ensures made { verdict ≡ range_value self.old.job range → Went (λ d e. Lasts (Made self.old.job) (D.face d) (D.face e)) self.old.disk self.new.disk }
-        ensures goes_on { verdict ≡ range_value self.old.job range → Went (λ d e. (s : Slots) → Lasts (GoesOn self.old.job s) (D.face d) (D.face e)) self.old.disk self.new.disk }
+        ensures goes_on { verdict ≡ range_value self.old.job range
+            → Went (λ d e. (s : Slots) → Lasts (GoesOn self.old.job s) (D.face d) (D.face e)) self.old.disk self.new.disk }
         ensures reads { Went (λ d e. Reads (D.face e) (λ f. Stands self.old.job self.old.table f ⊎ Stands self.old.job (set self.old.table range (Some verdict)) f)) self.old.disk self.new.disk }
         ensures rose { OnErr result (Went (λ d e. Rose (D.face d).faults (D.face e).faults) self.old.disk self.new.disk) }
         ensures count { IfErr result (λ u. ForSome self.new.disk (λ e. u.faults ≡ (D.face e).faults)) }
@@ -176,7 +177,8 @@ impl<D: Disk> Journal<D> {
         ensures err { OnErr result (self.new ≡ record { disk = self.new.disk; job = self.old.job; table = self.old.table; failed = true }) }
         ensures disk { Went (λ d e. Same D.face D.loans d e × Spares self.old.job (D.face d) (D.face e)) self.old.disk self.new.disk }
         ensures made { AreValues self.old.job group.items → Went (λ d e. Lasts (Made self.old.job) (D.face d) (D.face e)) self.old.disk self.new.disk }
-        ensures goes_on { AreValues self.old.job group.items → Went (λ d e. (s : Slots) → Lasts (GoesOn self.old.job s) (D.face d) (D.face e)) self.old.disk self.new.disk }
+        ensures goes_on { AreValues self.old.job group.items
+            → Went (λ d e. (s : Slots) → Lasts (GoesOn self.old.job s) (D.face d) (D.face e)) self.old.disk self.new.disk }
         ensures reads { Went (λ d e. Reads (D.face e) (StandsPartly self.old.job self.old.table group.items)) self.old.disk self.new.disk }
         ensures rose { OnErr result (Went (λ d e. Rose (D.face d).faults (D.face e).faults) self.old.disk self.new.disk) }
         ensures count { IfErr result (λ u. ForSome self.new.disk (λ e. u.faults ≡ (D.face e).faults)) }

@@ -173,7 +173,12 @@ leaves_created j is table was old new stood empty creates fresh = record {
   slots = table;
   are_old = λ f told. one_map1 j is table f (stood f told);
   since = creates.since (empty_unbegun old empty);
-  spares = record { runs = creates.runs; none = creates.none; begun = creates.begun (empty_unbegun old empty); stable = creates.stable (empty_unbegun old empty) };
+  spares = record {
+    runs = creates.runs;
+    none = creates.none;
+    begun = creates.begun (empty_unbegun old empty);
+    stable = creates.stable (empty_unbegun old empty);
+  };
   reads = fresh;
 }
 

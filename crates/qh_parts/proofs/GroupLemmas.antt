@@ -1,11 +1,10 @@
 -- The slots with the members of a group.
-use Rattle.std.proofs.Common.{◌≡◌, ◌≢◌, ◌<◌, ◌⊎◌, inl, inr, ℕ, zero, suc, ◌+◌, ◌≤◌, List, [], ◌∷◌, ◌++◌, length, take, set, get_or, Option, Some, None, refl, sym, ap, subst, ◌∙◌, arith}
+use Rattle.std.proofs.Common.{◌≡◌, ◌<◌, ◌⊎◌, inl, inr, ℕ, suc, ◌+◌, List, [], ◌∷◌, ◌++◌, length, take, set, get_or, Some, None, refl, sym, ap, subst, ◌∙◌, arith}
 use Rattle.std.proofs.lemmas.Bool.{cases_eq, cases_lt}
 use Rattle.std.proofs.lemmas.List.{length-set, get_or-set_same, get_or-set_other, get_or_past, take_more}
 use Rattle.qh_plan.specs.declared.verdict.Verdict.{Verdict}
-use Rattle.qh_plan.specs.Jobs.{Job, ranges}
+use Rattle.qh_plan.specs.Jobs.{Job}
 use Rattle.qh_plan.specs.Ranges.{Fits}
-use Rattle.qh_disk.specs.Disk.{Face, Reads}
 use Rattle.qh_slots.specs.Stands.{Slots, slot_at, AllFit, Stands}
 use Rattle.qh_parts.specs.Groups.{IsGroup, StandsPartly, filled, range_of, member_of, unused}
 use Rattle.qh_parts.specs.declared.member.Member.{Member}

@@ -3,13 +3,13 @@ use Rattle.std.proofs.Common.{◌≡◌, ◌<◌, inl, inr, ℕ, ◌+◌, ◌-�
 use Rattle.std.proofs.lemmas.Bool.{cases_eq, cases_lt}
 use Rattle.std.proofs.lemmas.List.{places, ext_get_or, get_or_past, get_or-take, get_or-replicate, get_or-drop, length-drop, length-take, length-replicate, length-set, get_or-set_same, get_or-set_other}
 use Rattle.qh_plan.specs.declared.verdict.Verdict.{Verdict}
-use Rattle.qh_plan.specs.Jobs.{Job, IsJob, ranges}
+use Rattle.qh_plan.specs.Jobs.{Job, ranges}
 use Rattle.qh_plan.specs.Ranges.{Fits}
 use Rattle.qh_disk.specs.Disk.{Face, IsSafe, Reads, Becomes, overwritten, resized, Torn, Stretched, Turns, Calls}
 use Rattle.qh_disk.specs.Moments.{EachImage, EachImageSince, Runs, Lasts}
 use Rattle.qh_disk.specs.Looks.{Looks}
 use Rattle.qh_disk.specs.declared.failed.Failed.{Failed}
-use Rattle.qh_disk.proofs.Moments.{runs_same, lasts_same, each_since_same, lasts_call, lasts_on, runs_call, runs_on, turns_keeps, safe_each, each_since_call, each_since_on}
+use Rattle.qh_disk.proofs.Moments.{lasts_call, lasts_on, runs_call, runs_on, turns_keeps, safe_each, each_since_call, each_since_on}
 use Rattle.qh_disk.proofs.Looking.{narrows_lasts, narrows_since, lasts_absurd}
 use Rattle.qh_disk.proofs.Rules.{told_before, resized_length, resized_beyond, overwritten_inside, overwritten_torn}
 use Rattle.qh_slots.specs.Layout.{mark, head, place, part, slot_size, body_size}
@@ -56,10 +56,17 @@ closed_holds : (j : Job) (r : ℕ) (v : Verdict) (old new : Face) → StaysClose
 closed_holds j r v old new a each = lasts_absurd (Holds j r v) IsUnbegun old new (a.closed each) (λ c unbegun held. unbegun (begun j held.slots c held.stands)) a.none
 
 closed_begun : (j : Job) (old new : Face) → StaysClosed old new → EachImage old IsUnbegun → Lasts (StandsFor j) old new
-closed_begun j old new a each = lasts_absurd (StandsFor j) IsUnbegun old new (a.closed each) (λ c unbegun stands. unbegun (begun j stands.slots c stands.stands)) a.none
+closed_begun j old new a each = lasts_absurd (StandsFor j) IsUnbegun old new (a.closed each)
+    (λ c unbegun stands. unbegun (begun j stands.slots c stands.stands)) a.none
 
 pub creates_closed : (j : Job) (s : Slots) (old new : Face) → StaysClosed old new → Creates j s old new
-creates_closed j s old new a = record { runs = a.runs; none = a.none; since = λ each c is. inl (a.closed each c is); begun = λ each. closed_begun j old new a each; stable = λ each r v. closed_holds j r v old new a each }
+creates_closed j s old new a = record {
+  runs = a.runs;
+  none = a.none;
+  since = λ each c is. inl (a.closed each c is);
+  begun = λ each. closed_begun j old new a each;
+  stable = λ each r v. closed_holds j r v old new a each;
+}
 
 pub creates_on : (j : Job) (s : Slots) (old mid new : Face) → StaysClosed old mid → Creates j s mid new → Creates j s old new
 creates_on j s old mid new a b = record {

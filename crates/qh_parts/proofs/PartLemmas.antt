@@ -1,5 +1,5 @@
 -- What the writes of a store do to a disk.
-use Rattle.std.proofs.Common.{◌≢◌, ◌≡◌, ◌<◌, ◌⊎◌, ℕ, ◌+◌, ◌*◌, ◌≤◌, List, [], ◌∷◌, length, replicate, set, get_or, Some, Result, Ok, Err, sym, ap, subst, ◌∙◌, arith}
+use Rattle.std.proofs.Common.{◌≢◌, ◌≡◌, ◌<◌, ◌⊎◌, ℕ, ◌+◌, ◌≤◌, List, [], ◌∷◌, length, set, get_or, Some, Result, Ok, Err, sym, ap, subst, ◌∙◌, arith}
 use Rattle.std.proofs.lemmas.List.{places, ext_get_or}
 use Rattle.std.specs.Prelude.{OnOk}
 use Rattle.qh_plan.specs.declared.verdict.Verdict.{Verdict}
@@ -64,7 +64,8 @@ made_on j old mid new a x b y = lasts_on (Made j) old mid new x b.runs y
 pub goes_looks : (j : Job) (s0 : Slots) (old new : Face) → Looks old new → Lasts (GoesOn j s0) old new
 goes_looks j s0 old new looks = narrows_lasts (GoesOn j s0) old new looks.narrows
 
-pub goes_on : (j : Job) (s0 : Slots) (old mid new : Face) → Spares j old mid → Lasts (GoesOn j s0) old mid → Spares j mid new → Lasts (GoesOn j s0) mid new → Lasts (GoesOn j s0) old new
+pub goes_on : (j : Job) (s0 : Slots) (old mid new : Face) → Spares j old mid → Lasts (GoesOn j s0) old mid → Spares j mid new → Lasts (GoesOn j s0) mid new
+    → Lasts (GoesOn j s0) old new
 goes_on j s0 old mid new a x b y = lasts_on (GoesOn j s0) old mid new x b.runs y
 
 pub part_overwritten : (at n : ℕ) (bytes f : List ℕ) → n ≡ length bytes → at + length bytes ≤ length f → part at n (overwritten at bytes f) ≡ bytes
@@ -98,7 +99,8 @@ module _ (j : Job) (is : IsJob j) (r : ℕ) (low : r < ranges j) (old new : Face
     body_lasts_made result call = lasts_call (Made j) result old new call (body_keeps (Made j) (λ d c torn s p. body_made j is r low d c torn s p))
 
     pub body_lasts_goes : {T : Type 0} (result : Result T Failed) → Calls result old new → (s0 : Slots) → Lasts (GoesOn j s0) old new
-    body_lasts_goes result call s0 = lasts_call (GoesOn j s0) result old new call (body_keeps (GoesOn j s0) (λ d c torn s p. body_goes j is r low d c s0 torn s p))
+    body_lasts_goes result call s0 = lasts_call (GoesOn j s0) result old new call (body_keeps (GoesOn j s0)
+        (λ d c torn s p. body_goes j is r low d c s0 torn s p))
 
     pub body_kept : Reads old (IsImage old) → (s : Slots) → Reads old (Stands j s) → Reads new (Stands j s)
     body_kept current s reads c told =
@@ -145,7 +147,8 @@ module _ (j : Job) (is : IsJob j) (r : ℕ) (low : r < ranges j) (old new : Face
     gate_lasts_made result call is_true = lasts_call (Made j) result old new call (gate_keeps (Made j) (λ d c torn s p. gate_made j is r low d c v is_true torn s p))
 
     pub gate_lasts_goes : {T : Type 0} (result : Result T Failed) → Calls result old new → v ≡ range_value j r → (s0 : Slots) → Lasts (GoesOn j s0) old new
-    gate_lasts_goes result call is_true s0 = lasts_call (GoesOn j s0) result old new call (gate_keeps (GoesOn j s0) (λ d c torn s p. gate_goes j is r low d c v is_true s0 torn s p))
+    gate_lasts_goes result call is_true s0 = lasts_call (GoesOn j s0) result old new call (gate_keeps (GoesOn j s0)
+        (λ d c torn s p. gate_goes j is r low d c v is_true s0 torn s p))
 
     pub gate_reads_either : Reads old (IsImage old) → (s : Slots) → Reads old (Stands j s) → Reads new (λ f. Stands j s f ⊎ Stands j (set s r (Some v)) f)
     gate_reads_either current s reads c told =

@@ -1,5 +1,5 @@
 -- Where a slot begins, and that the journal is short.
-use Rattle.std.proofs.Common.{◌≡◌, ◌<◌, ℕ, ◌+◌, ◌*◌, ◌≤◌, List, length, refl, arith}
+use Rattle.std.proofs.Common.{◌≡◌, ◌<◌, ℕ, ◌+◌, ◌*◌, ◌≤◌, length, refl, arith}
 use Rattle.qh_plan.specs.Jobs.{Job, ranges}
 use Rattle.qh_slots.specs.Layout.{head, place, slot_size}
 use Rattle.qh_slots.proofs.PlaceLemmas.{apart}

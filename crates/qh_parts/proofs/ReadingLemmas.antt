@@ -1,5 +1,5 @@
 -- Calls that read alone follow one another, and why the reading of all slots stops.
-use Rattle.std.proofs.Common.{◌≡◌, ◌<◌, inl, inr, ℕ, ◌+◌, ◌≤◌, false, List, [], ◌∷◌, ◌++◌, length, Option, Some, None, Result, refl, sym, subst, ◌∙◌, arith}
+use Rattle.std.proofs.Common.{◌≡◌, ◌<◌, inl, inr, ℕ, false, List, [], ◌∷◌, ◌++◌, length, Option, Some, None, Result, sym, subst, ◌∙◌, arith}
 use Rattle.std.specs.Option.{IfSome}
 use Rattle.std.proofs.lemmas.Bool.{cases_order}
 use Rattle.std.proofs.lemmas.List.{get_or_append_left, get_or_at, get_or_past, length-append}
@@ -7,11 +7,11 @@ use Rattle.qh_counts.proofs.Chains.{rose_before}
 use Rattle.qh_plan.specs.declared.verdict.Verdict.{Verdict}
 use Rattle.qh_plan.specs.Jobs.{Job, IsJob, ranges}
 use Rattle.qh_plan.specs.Ranges.{Fits}
-use Rattle.qh_disk.specs.Disk.{Face, IsImage, Reads, Calls, Unchanged}
+use Rattle.qh_disk.specs.Disk.{Face, Reads, Calls, Unchanged}
 use Rattle.qh_disk.specs.Looks.{Looks}
 use Rattle.qh_disk.specs.declared.failed.Failed.{Failed}
-use Rattle.qh_disk.proofs.Moments.{le_cases, runs_call}
-use Rattle.qh_disk.proofs.Looking.{looks_same, looks_call, looks_on, looks_read}
+use Rattle.qh_disk.proofs.Moments.{le_cases}
+use Rattle.qh_disk.proofs.Looking.{looks_same, looks_call, looks_on}
 use Rattle.qh_slots.specs.Slots.{SlotIs}
 use Rattle.qh_slots.specs.Stands.{Slots, slot_at, AllFit}
 use Rattle.qh_slots.specs.Attaching.{first_bad, is_good}

@@ -115,7 +115,11 @@ module _ (j : Job) (is : IsJob j) (r : ℕ) (low : r < ranges j) (d c : List ℕ
   body_begun torn shut was = record { slots = was.slots; stands = body_step j r was.slots d c low torn was.stands (shut_here shut was.slots was.stands) }
 
   pub body_goes : (s0 : Slots) → Torn (place (head j) j r + 1) (body_size j) d c → Shut j r d → GoesOn j s0 d → GoesOn j s0 c
-  body_goes s0 torn shut was = record { slots = was.slots; stands = body_step j r was.slots d c low torn was.stands (shut_here shut was.slots was.stands); extends = was.extends }
+  body_goes s0 torn shut was = record {
+    slots = was.slots;
+    stands = body_step j r was.slots d c low torn was.stands (shut_here shut was.slots was.stands);
+    extends = was.extends;
+  }
 
   pub body_made : Torn (place (head j) j r + 1) (body_size j) d c → Shut j r d → Made j d → Made j c
   body_made torn shut (inl closed) = absurd (closed (begun j shut.slots d shut.stands))

@@ -4,7 +4,7 @@ use Rattle.std.proofs.lemmas.Bool.{cases_eq, cases_lt}
 use Rattle.std.proofs.lemmas.List.{ext_get_or, get_or_past}
 use Rattle.qh_plan.specs.Jobs.{Job}
 use Rattle.qh_disk.specs.Disk.{Face, IsImage, IsSafe, Reads, Becomes, overwritten, resized, Torn, Stretched, Turns, Calls}
-use Rattle.qh_disk.specs.Moments.{EachImage, EachImageSince, Lasts}
+use Rattle.qh_disk.specs.Moments.{EachImage}
 use Rattle.qh_disk.specs.Looks.{Looks}
 use Rattle.qh_disk.specs.declared.failed.Failed.{Failed}
 use Rattle.qh_disk.proofs.Moments.{lasts_call, lasts_on, runs_call, runs_on, turns_keeps, safe_each, since_new, each_since_call, each_since_on}
@@ -97,7 +97,8 @@ pub clear_wipes : {T : Type 0} (result : Result T Failed) (old new : Face) → C
 clear_wipes result old new call turns unbegun = record {
   runs = runs_call result old new call;
   none = lasts_call (λ _. ⊥) result old new call (turns_keeps (λ _. ⊥) (Stretched 0) old new turns (λ d c s p. p));
-  since = each_since_call (λ c. IsImage old c ⊎ IsUnbegun c) result old new call (λ c is. inl is) (λ c is. let from = turns.images c is in inr (stretched_unbegun 0 from.0 c from.2 (unbegun from.0 from.1)));
+  since = each_since_call (λ c. IsImage old c ⊎ IsUnbegun c) result old new call (λ c is. inl is)
+      (λ c is. let from = turns.images c is in inr (stretched_unbegun 0 from.0 c from.2 (unbegun from.0 from.1)));
   made = λ j. lasts_call (Made j) result old new call (λ each c is. let from = turns.images c is in inl (stretched_unbegun 0 from.0 c from.2 (unbegun from.0 from.1)));
   empty = lasts_call (λ f. f ≡ []) result old new call (turns_keeps (λ f. f ≡ []) (Stretched 0) old new turns clear_empty);
 }

@@ -1,5 +1,5 @@
 -- What a run of calls keeps of the slots of a journal, at each of its moments.
-use Rattle.std.specs.Prelude.{ℕ, List}
+use Rattle.std.specs.Prelude.{ℕ}
 use Rattle.qh_plan.specs.declared.verdict.Verdict.{Verdict}
 use Rattle.qh_plan.specs.Jobs.{Job}
 use Rattle.qh_disk.specs.Disk.{Face}

@@ -17,11 +17,10 @@ use Rattle.qh_gates.proofs.KindLemmas.{each_kind}
 use Rattle.qh_circuit.specs.Spelling.{spaced_number, second_text, gate_text, gate_line, circuit_text}
 use Rattle.qh_text.specs.Bitstrings.{bits_text}
 use Rattle.qh_text.proofs.BitLemmas.{bits_length}
-use Rattle.qh_plan.specs.Jobs.{Job, IsJob, ranges}
+use Rattle.qh_plan.specs.Jobs.{Job, IsJob}
 use Rattle.qh_plan.specs.Texts.{word, words, prefix_text, bits_line, gates_text, asked_text, job_text}
-use Rattle.qh_plan.proofs.OneTextLemmas.{IsWritten, written, one_job}
+use Rattle.qh_plan.proofs.OneTextLemmas.{written, one_job}
 use Rattle.qh_slots.specs.Layout.{head, part}
-use Rattle.qh_slots.specs.Stands.{Slots, Stands}
 use Rattle.qh_slots.specs.Laws.{OneOwnerLaw}
 use Rattle.qh_slots.proofs.ReadLemmas.{one_path}
 use Rattle.qh_slots.proofs.StandLemmas.{head_size, part_taken}
@@ -45,7 +44,8 @@ few_short f m most xs each few = let all = pieces_short f m xs each in let more 
 
 words_short : (name numbers : List ℕ) (most : ℕ) → All (λ n. n < 2 ^ 32) numbers → length numbers ≤ most → length (words name numbers) ≤ length name + most * 11
 words_short name numbers most small few =
-    let all = few_short word 11 most numbers (All-weaker (λ n. n < 2 ^ 32) (λ n. length (word n) ≤ 11) (λ n low. let d = number_short n low in omega arith) numbers small) few in
+    let all = few_short word 11 most numbers (All-weaker (λ n. n < 2 ^ 32) (λ n. length (word n) ≤ 11)
+    (λ n low. let d = number_short n low in omega arith) numbers small) few in
     let both = length-append name (flat_map word numbers) in
     omega arith
 
@@ -76,7 +76,8 @@ lines_short n (g ∷ gates) few fit times =
     let here = All-head (Fits n) g gates fit in
     let first = here.first in
     let second = here.second in
-    All-cons (λ (x : Gate). length (gate_line x) ≤ 42) g gates (line_short g (All-head (λ (x : Gate). x.time < 2 ^ 32) g gates times) (omega arith) (omega arith))
+    All-cons (λ (x : Gate). length (gate_line x) ≤ 42) g gates (line_short g (All-head (λ (x : Gate). x.time < 2 ^ 32) g gates times) (omega arith)
+    (omega arith))
     (lines_short n gates few (All-tail (Fits n) g gates fit) (All-tail (λ (x : Gate). x.time < 2 ^ 32) g gates times))
 
 circuit_short : (c : Circuit) → IsCircuit c → length (circuit_text c) ≤ 172043
@@ -108,7 +109,8 @@ asked_short c bits is few =
   where
     each : (xs : List ℕ) → c.qubits ≤ 40 → All (λ x. length (bits_line c.qubits x) ≤ 41) xs
     each [] low = All-nil (λ x. length (bits_line c.qubits x) ≤ 41)
-    each (x ∷ xs) low = All-cons (λ y. length (bits_line c.qubits y) ≤ 41) x xs (let l = bits_length c.qubits x in let a = length-append (bits_text c.qubits x) (10 ∷ []) in omega arith) (each xs low)
+    each (x ∷ xs) low = All-cons (λ y. length (bits_line c.qubits y) ≤ 41) x xs (let l = bits_length c.qubits x in
+        let a = length-append (bits_text c.qubits x) (10 ∷ []) in omega arith) (each xs low)
 
 text_short : (j : Job) → IsJob j → length (job_text j) < 2 ^ 64
 unfolding job_text
@@ -116,12 +118,14 @@ text_short j is =
     let w = written j is in
     let n = is.narrow_one in
     let part = words_short (codes "part") j.part 20 w.part n in
-    let split = words_short (codes "split") (j.p ∷ j.r ∷ []) 2 (All-cons (λ n. n < 2 ^ 32) j.p (j.r ∷ []) w.p (All-cons (λ n. n < 2 ^ 32) j.r [] w.r (All-nil (λ n. n < 2 ^ 32)))) (omega arith) in
+    let split = words_short (codes "split") (j.p ∷ j.r ∷ []) 2 (All-cons (λ n. n < 2 ^ 32) j.p (j.r ∷ []) w.p
+    (All-cons (λ n. n < 2 ^ 32) j.r [] w.r (All-nil (λ n. n < 2 ^ 32)))) (omega arith) in
     let prefix = prefix_short j.prefix w.prefix in
     let asked = asked_short j.circuit j.bits is.valid is.few_bits in
     let x = length-append (prefix_text j.prefix) (10 ∷ asked_text j.circuit j.bits) in
     let y = length-append (words (codes "split") (j.p ∷ j.r ∷ [])) (10 ∷ (prefix_text j.prefix ++ 10 ∷ asked_text j.circuit j.bits)) in
-    let z = length-append (words (codes "part") j.part) (10 ∷ (words (codes "split") (j.p ∷ j.r ∷ []) ++ 10 ∷ (prefix_text j.prefix ++ 10 ∷ asked_text j.circuit j.bits))) in
+    let z = length-append (words (codes "part") j.part) (10 ∷ (words (codes "split") (j.p ∷ j.r ∷ []) ++ 10 ∷
+    (prefix_text j.prefix ++ 10 ∷ asked_text j.circuit j.bits))) in
     omega arith
 
 -- ---- the parts of the head
@@ -134,12 +138,14 @@ unfolding head
 head_text j = refl
 
 -- one text where the heads of both begin a file
-one_text : (i j : Job) (f : List ℕ) → length (job_text i) < 2 ^ 64 → length (job_text j) < 2 ^ 64 → take (length (head i)) f ≡ head i → take (length (head j)) f ≡ head j → job_text i ≡ job_text j
+one_text : (i j : Job) (f : List ℕ) → length (job_text i) < 2 ^ 64 → length (job_text j) < 2 ^ 64 → take (length (head i)) f ≡ head i
+    → take (length (head j)) f ≡ head j → job_text i ≡ job_text j
 one_text i j f si sj bi bj =
     let hi = head_size i in
     let hj = head_size j in
     let same : length (job_text i) ≡ length (job_text j) = one_path (length (job_text i)) (length (job_text j)) si sj
-            (sym (head_count i) ∙ ap (part 8 8) (sym bi) ∙ part_taken 8 8 (length (head i)) f (omega arith) ∙ sym (part_taken 8 8 (length (head j)) f (omega arith)) ∙ ap (part 8 8) bj ∙ head_count j) in
+    (sym (head_count i) ∙ ap (part 8 8) (sym bi) ∙ part_taken 8 8 (length (head i)) f (omega arith)
+    ∙ sym (part_taken 8 8 (length (head j)) f (omega arith)) ∙ ap (part 8 8) bj ∙ head_count j) in
     let long : length (head i) ≡ length (head j) = omega arith in
     sym (head_text i) ∙ ap (drop 32) (sym bi ∙ ap (λ (n : ℕ). take n f) long ∙ bj) ∙ head_text j
 

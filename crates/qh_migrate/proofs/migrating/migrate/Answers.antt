@@ -65,10 +65,14 @@ returns-in-Ok-fill-clause-moved g c =
     }
 
 pub returns-clause-fault : goal.returns-clause-fault
-returns-clause-fault g c = (c.in-Err-fill.ensures.rose, record {
-  slots = c.in-Ok-look_through.table.items;
-  stood = subst (λ (j : Job). Reads (g.F.Disk.face c.args.old.now) (Stands1 j c.in-Ok-look_through.table.items)) c.deref-4.ensures c.in-Ok-look_through.ensures.slots;
-})
+returns-clause-fault g c = (
+  c.in-Err-fill.ensures.rose,
+  record {
+    slots = c.in-Ok-look_through.table.items;
+    stood = subst (λ (j : Job). Reads (g.F.Disk.face c.args.old.now)
+        (Stands1 j c.in-Ok-look_through.table.items)) c.deref-4.ensures c.in-Ok-look_through.ensures.slots;
+  },
+)
 
 pub returns-clause-leaves : goal.returns-clause-leaves
 returns-clause-leaves g c = leaves_for (arc_value c.args.job.now) c.deref-5.result.now c.in-Ok-look_through.table.items c.as_slice-3.result.now (g.F.Disk.face c.args.old.now) (g.D.Disk.face c.args.new.now) (g.D.Disk.face c.fill.new.disk)

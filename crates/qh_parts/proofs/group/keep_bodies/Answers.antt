@@ -23,4 +23,5 @@ pub returns-clause-kept : goal.returns-clause-kept
 returns-clause-kept g c s reads = looks_reads (Stands c.args.job.now s) _ _ c.settle.ensures.looks (c.write_bodies.ensures.kept s reads)
 
 pub returns-clause-goes_on : goal.returns-clause-goes_on
-returns-clause-goes_on g c s = goes_on _ s _ _ _ c.write_bodies.ensures.spares (c.write_bodies.ensures.goes_on s) (spares_looks _ _ _ c.settle.ensures.looks) (goes_looks _ s _ _ c.settle.ensures.looks)
+returns-clause-goes_on g c s = goes_on _ s _ _ _ c.write_bodies.ensures.spares (c.write_bodies.ensures.goes_on s) (spares_looks _ _ _ c.settle.ensures.looks)
+    (goes_looks _ s _ _ c.settle.ensures.looks)

@@ -3,7 +3,7 @@ use Rattle.qh_disk.specs.Disk.{IsSafe}
 use Rattle.qh_disk.specs.Moments.{EachImage}
 use Rattle.qh_disk.proofs.Moments.{safe_each}
 use Rattle.qh_disk.proofs.Looking.{looks_reads}
-use Rattle.qh_slots.specs.Stands.{Slots, Stands, Holds}
+use Rattle.qh_slots.specs.Stands.{Stands, Holds}
 use Rattle.qh_parts.specs.Groups.{StandsPartly, filled, range_of, member_of}
 use Rattle.qh_parts.proofs.PartLemmas.{on_ok, on_always, spares_on, spares_looks, made_on, made_looks, goes_on, goes_looks}
 use Rattle.qh_parts.proofs.group.keep_gates.Goals as goal
@@ -26,4 +26,5 @@ pub returns-clause-partly : goal.returns-clause-partly
 returns-clause-partly g c s reads = looks_reads (StandsPartly c.args.job.now s c.args.group.now) _ _ c.settle.ensures.looks (c.open_gates.ensures.partly s reads)
 
 pub returns-clause-goes_on : goal.returns-clause-goes_on
-returns-clause-goes_on g c values s = goes_on _ s _ _ _ c.open_gates.ensures.spares (c.open_gates.ensures.goes_on values s) (spares_looks _ _ _ c.settle.ensures.looks) (goes_looks _ s _ _ c.settle.ensures.looks)
+returns-clause-goes_on g c values s = goes_on _ s _ _ _ c.open_gates.ensures.spares (c.open_gates.ensures.goes_on values s)
+    (spares_looks _ _ _ c.settle.ensures.looks) (goes_looks _ s _ _ c.settle.ensures.looks)

@@ -24,4 +24,5 @@ pub returns-in_err-keep_bodies-clause-partly : goal.returns-in_err-keep_bodies-c
 returns-in_err-keep_bodies-clause-partly g c s reads f told = partly_none c.args.job.now s c.args.group.now f (c.keep_bodies.ensures.kept s reads f told)
 
 pub returns-clause-goes_on : goal.returns-clause-goes_on
-returns-clause-goes_on g c values s = goes_on _ s _ _ _ c.keep_bodies.ensures.spares (c.keep_bodies.ensures.goes_on s) c.keep_gates.ensures.spares (c.keep_gates.ensures.goes_on values s)
+returns-clause-goes_on g c values s = goes_on _ s _ _ _ c.keep_bodies.ensures.spares (c.keep_bodies.ensures.goes_on s) c.keep_gates.ensures.spares
+    (c.keep_gates.ensures.goes_on values s)

@@ -1,7 +1,6 @@
-use Rattle.std.proofs.Common.{◌≡◌, ◌≢◌, ◌<◌, ℕ, List, length, get_or, sym, ap, subst, ◌∙◌, arith, rules, refl, inl, inr}
+use Rattle.std.proofs.Common.{◌≡◌, ◌≢◌, ◌<◌, ℕ, List, length, get_or, sym, ap, subst, ◌∙◌, arith, rules, inl, inr}
 use Rattle.std.proofs.lemmas.Bool.{cases_eq}
 use Rattle.std.proofs.lemmas.List.{get_or_default}
-use Rattle.qh_plan.specs.declared.verdict.Verdict.{Verdict}
 use Rattle.qh_plan.specs.Jobs.{Job, ranges}
 use Rattle.qh_plan.specs.Ranges.{Fits}
 use Rattle.qh_disk.specs.Disk.{Reads}
@@ -65,7 +64,8 @@ pub returns-in_err-write_body-clause-made : goal.returns-in_err-write_body-claus
 returns-in_err-write_body-clause-made g c = made_on _ _ _ _ c.loop-member.invariant.spares c.loop-member.invariant.made c.write_body.ensures.spares c.write_body.ensures.made
 
 pub returns-in_err-write_body-clause-goes_on : goal.returns-in_err-write_body-clause-goes_on
-returns-in_err-write_body-clause-goes_on g c s = goes_on _ s _ _ _ c.loop-member.invariant.spares (c.loop-member.invariant.goes_on s) c.write_body.ensures.spares (c.write_body.ensures.goes_on s)
+returns-in_err-write_body-clause-goes_on g c s = goes_on _ s _ _ _ c.loop-member.invariant.spares
+    (c.loop-member.invariant.goes_on s) c.write_body.ensures.spares (c.write_body.ensures.goes_on s)
 
 pub returns-in_err-write_body-clause-kept : goal.returns-in_err-write_body-clause-kept
 returns-in_err-write_body-clause-kept g c s reads = c.write_body.ensures.kept s (c.loop-member.invariant.kept s reads)
@@ -97,6 +97,7 @@ loop-member-preserved g c =
       kept = λ s reads. c.write_body.ensures.kept s (c.loop-member.invariant.kept s reads);
       spares = spares_on _ _ _ _ c.loop-member.invariant.spares c.write_body.ensures.spares;
       made = made_on _ _ _ _ c.loop-member.invariant.spares c.loop-member.invariant.made c.write_body.ensures.spares c.write_body.ensures.made;
-      goes_on = λ s. goes_on _ s _ _ _ c.loop-member.invariant.spares (c.loop-member.invariant.goes_on s) c.write_body.ensures.spares (c.write_body.ensures.goes_on s);
+      goes_on = λ s. goes_on _ s _ _ _ c.loop-member.invariant.spares (c.loop-member.invariant.goes_on s) c.write_body.ensures.spares
+          (c.write_body.ensures.goes_on s);
       same = c.write_body.ensures.same ∙ c.loop-member.invariant.same;
     }

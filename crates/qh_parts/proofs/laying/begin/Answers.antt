@@ -2,7 +2,7 @@ use Rattle.qh_disk.specs.Disk.{Reads}
 use Rattle.qh_disk.proofs.Looking.{looks_reads}
 use Rattle.qh_disk.proofs.Moments.{runs_on}
 use Rattle.qh_slots.specs.Stands.{Slots, Stands}
-use Rattle.qh_parts.specs.Laying.{IsFresh, IsLaid}
+use Rattle.qh_parts.specs.Laying.{IsLaid}
 use Rattle.qh_parts.proofs.PartLemmas.{on_ok}
 use Rattle.qh_parts.proofs.LayLemmas.{closed_looks, creates_closed, creates_on, laid_reads}
 use Rattle.qh_parts.proofs.laying.begin.Goals as goal

@@ -1,6 +1,6 @@
 use Rattle.std.proofs.Common.{inl, arith}
 use Rattle.qh_slots.specs.Stands.{nones}
-use Rattle.qh_slots.specs.Layout.{head, place}
+use Rattle.qh_slots.specs.Layout.{head}
 use Rattle.qh_plan.specs.Jobs.{ranges}
 use Rattle.qh_slots.proofs.StandLemmas.{head_size}
 use Rattle.qh_slots.proofs.PlaceLemmas.{place_start}

@@ -1,6 +1,6 @@
 use Rattle.qh_disk.proofs.Looking.{looks_reads}
 use Rattle.qh_disk.proofs.Moments.{runs_on}
-use Rattle.qh_slots.specs.Stands.{Slots, Stands}
+use Rattle.qh_slots.specs.Stands.{Stands}
 use Rattle.qh_parts.specs.Laying.{IsFresh}
 use Rattle.qh_parts.proofs.PartLemmas.{on_always}
 use Rattle.qh_parts.proofs.LayLemmas.{creates_looks}

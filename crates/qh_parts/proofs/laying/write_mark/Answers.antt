@@ -1,4 +1,4 @@
-use Rattle.std.proofs.Common.{[], ◌∷◌, arith}
+use Rattle.std.proofs.Common.{[], ◌∷◌}
 use Rattle.qh_disk.specs.Disk.{Reads, Becomes, overwritten}
 use Rattle.qh_disk.proofs.Moments.{runs_call}
 use Rattle.qh_slots.specs.Layout.{mark}

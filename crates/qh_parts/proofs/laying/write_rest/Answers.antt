@@ -1,10 +1,9 @@
 use Rattle.std.proofs.Common.{◌≡◌, ◌-◌, ℕ, List, length, take, drop, ap, ◌∙◌, arith, rules}
 use Rattle.std.specs.Prelude.{option_map}
-use Rattle.std.proofs.lemmas.List.{length-drop}
 use Rattle.std.proofs.lemmas.Slice.{between_to_end}
 use Rattle.qh_plan.specs.Jobs.{ranges}
-use Rattle.qh_disk.specs.Disk.{Reads, Becomes, overwritten}
-use Rattle.qh_slots.specs.Layout.{head, place}
+use Rattle.qh_disk.specs.Disk.{Reads, overwritten}
+use Rattle.qh_slots.specs.Layout.{head}
 use Rattle.qh_slots.specs.Stands.{nones}
 use Rattle.qh_slots.proofs.StandLemmas.{head_size}
 use Rattle.qh_slots.proofs.PlaceLemmas.{place_start}

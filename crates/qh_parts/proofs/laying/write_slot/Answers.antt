@@ -1,10 +1,9 @@
-use Rattle.std.proofs.Common.{◌≡◌, ◌+◌, ◌≤◌, ◌∷◌, ℕ, List, length, set, Some, ap, ◌∙◌, arith}
+use Rattle.std.proofs.Common.{◌≡◌, ◌≤◌, ℕ, List, length, set, Some, ap, ◌∙◌, arith}
 use Rattle.std.specs.Prelude.{option_map}
 use Rattle.std.proofs.Math.Path.{ap₂}
 use Rattle.qh_plan.specs.Jobs.{ranges}
 use Rattle.qh_disk.specs.Disk.{Reads, Becomes, overwritten}
-use Rattle.qh_slots.specs.Layout.{head, mark, place}
-use Rattle.qh_slots.specs.Slots.{spelled}
+use Rattle.qh_slots.specs.Layout.{head, place}
 use Rattle.qh_slots.specs.Stands.{Slots}
 use Rattle.qh_slots.proofs.StandLemmas.{head_size}
 use Rattle.qh_slots.proofs.SpellingLemmas.{spelled_size}

@@ -13,4 +13,5 @@ pub returns-clause-made : goal.returns-clause-made
 returns-clause-made g c = made_on _ _ _ _ c.write_body.ensures.spares c.write_body.ensures.made (spares_looks _ _ _ c.settle.ensures.looks) (made_looks _ _ _ c.settle.ensures.looks)
 
 pub returns-clause-goes_on : goal.returns-clause-goes_on
-returns-clause-goes_on g c s = goes_on _ s _ _ _ c.write_body.ensures.spares (c.write_body.ensures.goes_on s) (spares_looks _ _ _ c.settle.ensures.looks) (goes_looks _ s _ _ c.settle.ensures.looks)
+returns-clause-goes_on g c s = goes_on _ s _ _ _ c.write_body.ensures.spares (c.write_body.ensures.goes_on s) (spares_looks _ _ _ c.settle.ensures.looks)
+    (goes_looks _ s _ _ c.settle.ensures.looks)

@@ -14,4 +14,5 @@ pub returns-clause-made : goal.returns-clause-made
 returns-clause-made g c is_true = made_on _ _ _ _ c.write_gate.ensures.spares (c.write_gate.ensures.made is_true) (spares_looks _ _ _ c.settle.ensures.looks) (made_looks _ _ _ c.settle.ensures.looks)
 
 pub returns-clause-goes_on : goal.returns-clause-goes_on
-returns-clause-goes_on g c is_true s = goes_on _ s _ _ _ c.write_gate.ensures.spares (c.write_gate.ensures.goes_on is_true s) (spares_looks _ _ _ c.settle.ensures.looks) (goes_looks _ s _ _ c.settle.ensures.looks)
+returns-clause-goes_on g c is_true s = goes_on _ s _ _ _ c.write_gate.ensures.spares (c.write_gate.ensures.goes_on is_true s)
+    (spares_looks _ _ _ c.settle.ensures.looks) (goes_looks _ s _ _ c.settle.ensures.looks)

@@ -17,4 +17,5 @@ pub returns-clause-spares : goal.returns-clause-spares
 returns-clause-spares g c = spares_on _ _ _ _ c.keep_body.ensures.spares c.open_gate.ensures.spares
 
 pub returns-clause-goes_on : goal.returns-clause-goes_on
-returns-clause-goes_on g c is_true s = goes_on _ s _ _ _ c.keep_body.ensures.spares (c.keep_body.ensures.goes_on s) c.open_gate.ensures.spares (c.open_gate.ensures.goes_on is_true s)
+returns-clause-goes_on g c is_true s = goes_on _ s _ _ _ c.keep_body.ensures.spares (c.keep_body.ensures.goes_on s) c.open_gate.ensures.spares
+    (c.open_gate.ensures.goes_on is_true s)

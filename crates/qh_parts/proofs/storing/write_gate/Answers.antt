@@ -27,7 +27,8 @@ returns-clause-made g c =
 
 pub returns-clause-goes_on : goal.returns-clause-goes_on
 returns-clause-goes_on g c =
-    gate_lasts_goes c.args.job.now c.requires.valid c.args.range c.requires.range (g.D.Disk.face c.args.disk.now) (g.D.Disk.face c.write_at.new.self) c.args.verdict.now
+    gate_lasts_goes c.args.job.now c.requires.valid c.args.range c.requires.range (g.D.Disk.face c.args.disk.now)
+    (g.D.Disk.face c.write_at.new.self) c.args.verdict.now
     (turns_at _ _ _ _ _ _ c.requires.at refl c.write_at.ensures.torn) c.requires.behind c.write_at.result c.write_at.ensures.call
 
 pub returns-clause-either : goal.returns-clause-either

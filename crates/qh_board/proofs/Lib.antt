@@ -1,0 +1,6 @@
+pub mod BoardLemmas
+pub mod GroupLemmas
+pub mod StartLemmas
+pub mod DeliverLemmas
+pub mod DiskLemmas
+pub mod PickLemmas

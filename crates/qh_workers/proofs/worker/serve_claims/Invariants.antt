@@ -1,0 +1,12 @@
+use Rattle.std.proofs.Common.{◌≡◌}
+use Rattle.std.specs.Arc.{arc_value}
+use Rattle.qh_workers.specs.Shares.{Grows, AllAcked}
+use Rattle.qh_workers.proofs.worker.serve_claims.Given as goal
+
+abbrev pub invariant-loop : goal.invariant-loop
+invariant-loop g l = record {
+  next : (goal.iterator-loop g).can_next l.iterator' × (goal.iterator-loop g).is_finite l.iterator';
+  room : l.room ≡ arc_value l.bench.job.now;
+  grows : Grows l.fn.share l.share;
+  acked : ¬ (g.K.Desk.may_repeat l.bench.desk.now) → AllAcked l.fn.share l.share;
+}
