@@ -1,5 +1,5 @@
 -- What causes exclude and give.
-use Rattle.std.proofs.Common.{◌≡◌, ℕ, ◌^◌, ◌<◌, ◌≤◌, ◌≢◌, ◌⊎◌, inl, inr, List, ◌++◌, length, map, Some, None, Ok, Err, Result, IfSome, IsSomeAnd, refl, sym, ap, subst, ◌∙◌, arith, append-nil}
+use Rattle.std.proofs.Common.{◌≡◌, ℕ, ◌^◌, ◌<◌, ◌≤◌, ◌≢◌, ◌⊎◌, inl, inr, List, ◌++◌, length, map, true, false, Some, None, Ok, Err, Result, is_some, IfSome, IsSomeAnd, refl, sym, ap, subst, ◌∙◌, arith, append-nil}
 use Rattle.std.proofs.lemmas.List.{ext_get_or}
 use Rattle.std.specs.declared.option.Option.{Option}
 use Rattle.qh_gates.specs.Circuits.{Circuit}
@@ -13,22 +13,26 @@ use Rattle.qh_plan.specs.Jobs.{Job}
 use Rattle.qh_plan.specs.Plans.{first_fault, job_of}
 use Rattle.qh_plan.specs.declared.fault.PlanFault.{PlanFault}
 use Rattle.qh_plan.specs.declared.fault.PlanFault.TheVariants.{PartText, NoSuchQubit, QubitTwice, EmptyPart, PartTooWide, TooManyCrossing, TooManyPaths, PrefixRoot, PrefixValue, TooManyRanges, JournalTooLong, UncutTooWide, Memory as PlanMemory}
+use Rattle.qh_disk.specs.Disk.{Face}
 use Rattle.qh_words.specs.declared.options.Options.{Options}
 use Rattle.qh_words.specs.declared.size.GenSize.{GenSize}
 use Rattle.qh_top.specs.Seen.{Seen, Rises}
-use Rattle.qh_top.specs.Inputs.{IsCircuitFile, IsRead, IsGenerated, IsInput, first_indices}
-use Rattle.qh_top.specs.Answer.{IsAnswerBy, IsPlannedJob}
+use Rattle.qh_top.specs.Inputs.{IsCircuitFile, IsRead, IsGenerated, IsInput, HasInput, first_indices}
+use Rattle.qh_top.specs.Answer.{IsAnswerBy}
+use Rattle.qh_top.specs.Jobs.{IsPlannedJob, Asks, Takes, keeping}
+use Rattle.qh_plan.specs.declared.verdict.Verdict.TheVariants.{Over}
 use Rattle.qh_top.specs.Refusals.{PlanRefusesBy, PlanRefuses, FilesRefuse, SizeRefuses, RefusesBy, Refuses, FilesReading, ReadingBy, Reading, SourceRises, RefusesAll, IsOfWords}
 use Rattle.qh_top.specs.declared.stop.Refusal.{Refusal}
 use Rattle.qh_top.specs.declared.stop.Refusal.TheVariants.{CircuitTooLong, CircuitLine, BitsTooLong, BitsLine, Plan}
 use Rattle.qh_top.specs.declared.stop.Input.TheVariants.{OfCircuit, OfBits}
 use Rattle.qh_top.specs.declared.stop.Stop.{Stop}
-use Rattle.qh_top.specs.declared.stop.Stop.TheVariants.{Usage, Refused, OverflowGate, OverflowPath, ReadFault, WriteFault, Memory}
-use Rattle.qh_top.specs.Request.{Prints, HasInput, FaultCame, Answers}
+use Rattle.qh_top.specs.declared.stop.Stop.TheVariants.{Usage, Refused, OverflowGate, OverflowPath, ReadFault, DiskFault, WriteFault, Memory, Journal}
+use Rattle.qh_top.specs.Request.{Prints, FaultCame, FaultFirst, Answers, OverflowsOn, IsRun}
 use Rattle.qh_top.specs.Stops.{status_of, stop_of, MayStopBy, MayStop}
 use Rattle.qh_top.proofs.Words.{words_of_plan}
 use Rattle.qh_top.proofs.Strings.{asked_indices}
-use Rattle.qh_top.specs.Parts.{FilesMayStop, InputMayStop, PlanMayStop, AnswerMayStop}
+use Rattle.qh_top.proofs.Sums.{not_kept}
+use Rattle.qh_top.specs.Parts.{FilesMayStop, InputMayStop, PlanMayStop, UncutMayStop, CutMayStop, AnswerMayStop}
 
 -- ---- what was read
 -- what was read whole is what the source held, where it tells that
@@ -48,10 +52,10 @@ circuit_clash r c fault e f = cc
 bits_clash : (r : Result (List ℕ) BitsFault) (xs : List ℕ) (fault : BitsFault) → r ≡ Ok xs → r ≡ Err fault → ⊥
 bits_clash r xs fault e f = cc
 
-same_circuit : (r : Result Circuit FaultyLine) (c d : Circuit) → r ≡ Ok c → r ≡ Ok d → c ≡ d
+pub same_circuit : (r : Result Circuit FaultyLine) (c d : Circuit) → r ≡ Ok c → r ≡ Ok d → c ≡ d
 same_circuit r c d e f = cc
 
-same_bits : (r : Result (List ℕ) BitsFault) (xs ys : List ℕ) → r ≡ Ok xs → r ≡ Ok ys → xs ≡ ys
+pub same_bits : (r : Result (List ℕ) BitsFault) (xs ys : List ℕ) → r ≡ Ok xs → r ≡ Ok ys → xs ≡ ys
 same_bits r xs ys e f = cc
 
 too_long : (n m : ℕ) → n ≤ m → m < n → ⊥
@@ -64,7 +68,7 @@ some_same o x y e f = cc
 some_none : (o : Option ℕ) (x : ℕ) → o ≡ Some x → o ≡ None → ⊥
 some_none o x e f = cc
 
-none_some : {A : Type 0} (o : Option A) (x : A) → o ≡ None → o ≡ Some x → ⊥
+pub none_some : {A : Type 0} (o : Option A) (x : A) → o ≡ None → o ≡ Some x → ⊥
 none_some o x e f = cc
 
 one_numbers : (items : List (List ℕ)) (xs ys : List ℕ) → AreNumbers items xs → AreNumbers items ys → xs ≡ ys
@@ -102,16 +106,17 @@ pub narrow_not_refused : (o : Options) (c : Circuit) (xs : List ℕ) → c.qubit
 narrow_not_refused o c xs l fault h = too_long c.qubits 16 l h.1
 
 -- what is answered is not refused
-pub answered_not_refused : (part : Option (List ℕ)) (o : Options) (c : Circuit) (xs : List ℕ) (strings : List (List ℕ)) (text : List ℕ) → map index_of strings ≡ xs
-    → IsAnswerBy part o c strings text → (fault : PlanFault) → PlanRefusesBy part o c xs fault → ⊥
-answered_not_refused None o c xs strings text e a fault h = narrow_not_refused o c xs a.narrow fault h
-answered_not_refused (Some part) o c xs strings text e a fault h =
+pub answered_not_refused : (part : Option (List ℕ)) (o : Options) (after : Face) (c : Circuit) (xs : List ℕ) (strings : List (List ℕ)) (text : List ℕ) → map index_of strings ≡ xs
+    → IsAnswerBy part o after c strings text → (fault : PlanFault) → PlanRefusesBy part o c xs fault → ⊥
+answered_not_refused None o after c xs strings text e a fault h = narrow_not_refused o c xs a.narrow fault h
+answered_not_refused (Some part) o after c xs strings text e a fault h =
     planned_not_refused o part c xs a.job (subst (λ ys. IsPlannedJob o part c ys a.job) e a.planned) fault h
 
 -- what was printed is not refused
-printed_not_refused : (o : Options) (circuit bits out : Seen) (front : List ℕ → List ℕ) (p : Prints o circuit bits out front) (fault : PlanFault) → PlanRefuses o p.value p.indices fault → ⊥
-printed_not_refused o circuit bits out front p fault h =
-    answered_not_refused o.part o p.value p.indices _ p.text (asked_indices o.max_time circuit bits p.value p.indices o.generated p.input) p.answer fault h
+printed_not_refused : (o : Options) (circuit bits out : Seen) (after : Face) (front : List ℕ → List ℕ) (p : Prints o circuit bits out after front)
+    (fault : PlanFault) → PlanRefuses o p.value p.indices fault → ⊥
+printed_not_refused o circuit bits out after front p fault h =
+    answered_not_refused o.part o after p.value p.indices _ p.text (asked_indices o.max_time circuit bits p.value p.indices o.generated p.input) p.answer fault h
 
 -- the stop of a plan's fault
 pub plan_stops : (P : PlanFault → Type 0) (fault : PlanFault) → (fault ≢ PlanMemory → P fault) → PlanMayStop P (stop_of fault)
@@ -181,16 +186,18 @@ files_words o circuit bits BitsTooLong e h = e
 files_words o circuit bits (BitsLine line why) e h = e
 files_words o circuit bits (Plan fault) e h = absurd h
 
-pub input_cause : (o : Options) (circuit bits out : Seen) (g : Option GenSize) → o.generated ≡ g → (stop : Stop) → InputMayStop g o.max_time circuit bits stop → MayStopBy o circuit bits out stop
-input_cause o circuit bits out None e Usage h = absurd h
-input_cause o circuit bits out None e (Refused r) h = (files_words o circuit bits r e h, subst (λ g. RefusesBy g (λ known P. IfSome known P) o r circuit.before bits.before) (sym e) (files_refuse o circuit bits r h))
-input_cause o circuit bits out None e (OverflowGate gate) h = absurd h
-input_cause o circuit bits out None e (OverflowPath path) h = absurd h
-input_cause o circuit bits out None e (ReadFault OfCircuit) h = (e, h)
-input_cause o circuit bits out None e (ReadFault OfBits) h = (e, h.0, h.1)
-input_cause o circuit bits out None e (WriteFault n) h = absurd h
-input_cause o circuit bits out None e Memory h = tt
-input_cause o circuit bits out (Some size) e stop h = subst (MayStopBy o circuit bits out) (sym h) tt
+pub input_cause : (o : Options) (circuit bits out : Seen) (disk after old old_after : Face) (g : Option GenSize) → o.generated ≡ g → (stop : Stop) → InputMayStop g o.max_time circuit bits stop → MayStopBy o circuit bits out disk after old old_after stop
+input_cause o circuit bits out disk after old old_after None e Usage h = absurd h
+input_cause o circuit bits out disk after old old_after None e (Refused r) h = (files_words o circuit bits r e h, subst (λ g. RefusesBy g (λ known P. IfSome known P) o r circuit.before bits.before) (sym e) (files_refuse o circuit bits r h))
+input_cause o circuit bits out disk after old old_after None e (OverflowGate gate) h = absurd h
+input_cause o circuit bits out disk after old old_after None e (OverflowPath path) h = absurd h
+input_cause o circuit bits out disk after old old_after None e (ReadFault OfCircuit) h = (e, h)
+input_cause o circuit bits out disk after old old_after None e (ReadFault OfBits) h = (e, h.0, h.1)
+input_cause o circuit bits out disk after old old_after None e DiskFault h = absurd h
+input_cause o circuit bits out disk after old old_after None e (WriteFault n) h = absurd h
+input_cause o circuit bits out disk after old old_after None e (Journal r) h = absurd h
+input_cause o circuit bits out disk after old old_after None e Memory h = tt
+input_cause o circuit bits out disk after old old_after (Some size) e stop h = subst (MayStopBy o circuit bits out disk after old old_after) (sym h) tt
 
 -- a refusal of the plan is one of the request
 plan_refused : (o : Options) (circuit bits : Seen) (g : Option GenSize) (c : Circuit) (xs : List ℕ) → IsInput g o.max_time circuit bits c xs → (fault : PlanFault) → PlanRefuses o c xs fault
@@ -205,33 +212,65 @@ plan_cause : (o : Options) (circuit bits : Seen) (c : Circuit) (xs : List ℕ) �
     → IsOfWords o (Plan fault) × Refuses (λ known P. IfSome known P) o (Plan fault) circuit.before bits.before
 plan_cause o circuit bits c xs a fault h = (words_of_plan o.part o c xs fault h, plan_refused o circuit bits o.generated c xs a fault h)
 
-pub answer_cause : (o : Options) (circuit bits out : Seen) (c : Circuit) (xs : List ℕ) → IsInput o.generated o.max_time circuit bits c xs
-    → (part : Option (List ℕ)) → o.part ≡ part → (stop : Stop) → AnswerMayStop part o c xs stop → MayStopBy o circuit bits out stop
-answer_cause o circuit bits out c xs a None e Usage h = absurd h
-answer_cause o circuit bits out c xs a None e (Refused CircuitTooLong) h = absurd h
-answer_cause o circuit bits out c xs a None e (Refused (CircuitLine line why)) h = absurd h
-answer_cause o circuit bits out c xs a None e (Refused BitsTooLong) h = absurd h
-answer_cause o circuit bits out c xs a None e (Refused (BitsLine line why)) h = absurd h
-answer_cause o circuit bits out c xs a None e (Refused (Plan fault)) h =
+-- the job of a plan over an input that was taken
+pub taken_job : (o : Options) (circuit bits : Seen) (c : Circuit) (xs : List ℕ) → IsInput o.generated o.max_time circuit bits c xs
+    → (part : List ℕ) → o.part ≡ Some part → (j : Job) → IsPlannedJob o part c xs j → Takes o circuit bits j
+taken_job o circuit bits c xs a part e j p = record { value = c; indices = xs; input = a; part = part; cut = e; planned = p }
+
+-- a run that is over
+overflows : (o : Options) (circuit bits : Seen) (disk after old : Face) (grants grants_after path : ℕ) (j : Job) → Takes o circuit bits j
+    → IsRun (keeping o) j old disk after grants grants_after (Over path) → OverflowsOn o circuit bits after path
+overflows o circuit bits disk after old grants grants_after path j t r = record {
+  job = j;
+  taken = t;
+  slots = r.whole.slots;
+  ended = r.whole.ended;
+  full = r.whole.full;
+  over = r.whole.total_is;
+  unkept = λ e. sym (r.unkept (not_kept o e));
+}
+
+uncut_cause : (o : Options) (circuit bits out : Seen) (disk after old old_after : Face) (c : Circuit) (xs : List ℕ) → IsInput o.generated o.max_time circuit bits c xs
+    → o.part ≡ None → (stop : Stop) → UncutMayStop c stop → MayStopBy o circuit bits out disk after old old_after stop
+uncut_cause o circuit bits out disk after old old_after c xs a e Usage h = absurd h
+uncut_cause o circuit bits out disk after old old_after c xs a e (Refused CircuitTooLong) h = absurd h
+uncut_cause o circuit bits out disk after old old_after c xs a e (Refused (CircuitLine line why)) h = absurd h
+uncut_cause o circuit bits out disk after old old_after c xs a e (Refused BitsTooLong) h = absurd h
+uncut_cause o circuit bits out disk after old old_after c xs a e (Refused (BitsLine line why)) h = absurd h
+uncut_cause o circuit bits out disk after old old_after c xs a e (Refused (Plan fault)) h =
     plan_cause o circuit bits c xs a fault (subst (λ p. PlanRefusesBy p o c xs fault) (sym e) h)
-answer_cause o circuit bits out c xs a None e (OverflowGate gate) h = record { value = c; indices = xs; input = a; uncut = e; narrow = h.0; over = h.1 }
-answer_cause o circuit bits out c xs a None e (OverflowPath path) h = absurd h
-answer_cause o circuit bits out c xs a None e (ReadFault input) h = absurd h
-answer_cause o circuit bits out c xs a None e (WriteFault n) h = absurd h
-answer_cause o circuit bits out c xs a None e Memory h = tt
-answer_cause o circuit bits out c xs a (Some part) e Usage h = absurd h
-answer_cause o circuit bits out c xs a (Some part) e (Refused CircuitTooLong) h = absurd h
-answer_cause o circuit bits out c xs a (Some part) e (Refused (CircuitLine line why)) h = absurd h
-answer_cause o circuit bits out c xs a (Some part) e (Refused BitsTooLong) h = absurd h
-answer_cause o circuit bits out c xs a (Some part) e (Refused (BitsLine line why)) h = absurd h
-answer_cause o circuit bits out c xs a (Some part) e (Refused (Plan fault)) h =
+uncut_cause o circuit bits out disk after old old_after c xs a e (OverflowGate gate) h = record { value = c; indices = xs; input = a; uncut = e; narrow = h.0; over = h.1 }
+uncut_cause o circuit bits out disk after old old_after c xs a e (OverflowPath path) h = absurd h
+uncut_cause o circuit bits out disk after old old_after c xs a e (ReadFault input) h = absurd h
+uncut_cause o circuit bits out disk after old old_after c xs a e DiskFault h = absurd h
+uncut_cause o circuit bits out disk after old old_after c xs a e (WriteFault n) h = absurd h
+uncut_cause o circuit bits out disk after old old_after c xs a e Memory h = tt
+uncut_cause o circuit bits out disk after old old_after c xs a e (Journal r) h = absurd h
+
+cut_cause : (o : Options) (circuit bits out : Seen) (disk after old old_after : Face) (grants grants_after : ℕ) (c : Circuit) (xs : List ℕ)
+    → IsInput o.generated o.max_time circuit bits c xs → (part : List ℕ) → o.part ≡ Some part
+    → (stop : Stop) → CutMayStop o part c xs disk after old old_after grants grants_after stop → MayStopBy o circuit bits out disk after old old_after stop
+cut_cause o circuit bits out disk after old old_after g ga c xs a part e Usage h = absurd h.stops
+cut_cause o circuit bits out disk after old old_after g ga c xs a part e (Refused CircuitTooLong) h = absurd h.stops
+cut_cause o circuit bits out disk after old old_after g ga c xs a part e (Refused (CircuitLine line why)) h = absurd h.stops
+cut_cause o circuit bits out disk after old old_after g ga c xs a part e (Refused BitsTooLong) h = absurd h.stops
+cut_cause o circuit bits out disk after old old_after g ga c xs a part e (Refused (BitsLine line why)) h = absurd h.stops
+cut_cause o circuit bits out disk after old old_after g ga c xs a part e (Refused (Plan fault)) h =
     plan_cause o circuit bits c xs a fault (subst (λ p. PlanRefusesBy p o c xs fault) (sym e) h)
-answer_cause o circuit bits out c xs a (Some part) e (OverflowGate gate) h = absurd h
-answer_cause o circuit bits out c xs a (Some part) e (OverflowPath path) h =
-    record { value = c; indices = xs; input = a; part = part; cut = e; job = h.0; planned = h.1; over = h.2 }
-answer_cause o circuit bits out c xs a (Some part) e (ReadFault input) h = absurd h
-answer_cause o circuit bits out c xs a (Some part) e (WriteFault n) h = absurd h
-answer_cause o circuit bits out c xs a (Some part) e Memory h = tt
+cut_cause o circuit bits out disk after old old_after g ga c xs a part e (OverflowGate gate) h = absurd h.stops
+cut_cause o circuit bits out disk after old old_after g ga c xs a part e (OverflowPath path) h =
+    overflows o circuit bits disk after old g ga path h.job (taken_job o circuit bits c xs a part e h.job h.planned) h.stops
+cut_cause o circuit bits out disk after old old_after g ga c xs a part e (ReadFault input) h = absurd h.stops
+cut_cause o circuit bits out disk after old old_after g ga c xs a part e DiskFault h = ((h.job, taken_job o circuit bits c xs a part e h.job h.planned), h.stops)
+cut_cause o circuit bits out disk after old old_after g ga c xs a part e (WriteFault n) h = absurd h.stops
+cut_cause o circuit bits out disk after old old_after g ga c xs a part e Memory h = tt
+cut_cause o circuit bits out disk after old old_after g ga c xs a part e (Journal r) h = (h.job, taken_job o circuit bits c xs a part e h.job h.planned, h.stops.0)
+
+pub answer_cause : (o : Options) (circuit bits out : Seen) (disk after old old_after : Face) (grants grants_after : ℕ) (c : Circuit) (xs : List ℕ)
+    → IsInput o.generated o.max_time circuit bits c xs → (part : Option (List ℕ)) → o.part ≡ part
+    → (stop : Stop) → AnswerMayStop part o c xs disk after old old_after grants grants_after stop → MayStopBy o circuit bits out disk after old old_after stop
+answer_cause o circuit bits out disk after old old_after g ga c xs a None e stop h = uncut_cause o circuit bits out disk after old old_after c xs a e stop h
+answer_cause o circuit bits out disk after old old_after g ga c xs a (Some part) e stop h = cut_cause o circuit bits out disk after old old_after g ga c xs a part e stop h
 
 -- ---- how a request that is refused may stop
 reading_circuit : (circuit bits : Seen) (r : Refusal) → Rises circuit → FilesReading circuit bits r
@@ -261,52 +300,60 @@ read_fault : (o : Options) (circuit bits : Seen) (status : ℕ) (g : Option GenS
 read_fault o circuit bits status None e s none r f h = (s, f h)
 read_fault o circuit bits status (Some size) e s none r f h = absurd (none_some o.generated size none e)
 
-pub refused_answer : (o : Options) (status : ℕ) (circuit bits out : Seen) (stop : Stop) → status ≡ status_of stop → MayStopBy o circuit bits out stop
+-- a job that was taken is not refused
+taken_not_refused : (o : Options) (circuit bits : Seen) (j : Job) → Takes o circuit bits j → (r : Refusal) → Refuses (λ known P. IsSomeAnd known P) o r circuit.before bits.before → ⊥
+taken_not_refused o circuit bits j t r h =
+    input_not_refused o circuit bits o.generated t.value t.indices t.input
+    (λ fault p. planned_not_refused o t.part t.value t.indices j t.planned fault (subst (λ q. PlanRefusesBy q o t.value t.indices fault) t.cut p)) r h
+
+pub taken_not_words : (o : Options) (circuit bits : Seen) (j : Job) → Takes o circuit bits j → RefusesAll o → ⊥
+taken_not_words o circuit bits j t all =
+    let f = all t.value t.indices in
+    planned_not_refused o t.part t.value t.indices j t.planned f.0 (subst (λ q. PlanRefusesBy q o t.value t.indices f.0) t.cut f.1)
+
+pub refused_answer : (o : Options) (status : ℕ) (circuit bits out : Seen) (disk after old old_after : Face) (stop : Stop) → status ≡ status_of stop → MayStopBy o circuit bits out disk after old old_after stop
     → (r : Refusal) → Refuses (λ known P. IsSomeAnd known P) o r circuit.before bits.before
     → (status ≡ 2) ⊎ ((status ≡ 7) ⊎ ((status ≡ 4) × Reading o circuit bits r))
-refused_answer o status circuit bits out Usage e m r h = absurd m
-refused_answer o status circuit bits out (Refused s) e m r h = inl e
-refused_answer o status circuit bits out (OverflowGate gate) e m r h =
+refused_answer o status circuit bits out disk after old old_after Usage e m r h = absurd m
+refused_answer o status circuit bits out disk after old old_after (Refused s) e m r h = inl e
+refused_answer o status circuit bits out disk after old old_after (OverflowGate gate) e m r h =
     absurd (input_not_refused o circuit bits o.generated m.value m.indices m.input
     (λ fault p. narrow_not_refused o m.value m.indices m.narrow fault (subst (λ q. PlanRefusesBy q o m.value m.indices fault) m.uncut p)) r h)
-refused_answer o status circuit bits out (OverflowPath path) e m r h =
-    absurd (input_not_refused o circuit bits o.generated m.value m.indices m.input
-    (λ fault p. planned_not_refused o m.part m.value m.indices m.job m.planned fault (subst (λ q. PlanRefusesBy q o m.value m.indices fault) m.cut p)) r h)
-refused_answer o status circuit bits out (ReadFault OfCircuit) e m r h =
+refused_answer o status circuit bits out disk after old old_after (OverflowPath path) e m r h =
+    absurd (taken_not_refused o circuit bits m.job m.taken r h)
+refused_answer o status circuit bits out disk after old old_after (ReadFault OfCircuit) e m r h =
     inr (inr (read_fault o circuit bits status o.generated refl e m.0 r (λ k. reading_circuit circuit bits r m.1) h))
-refused_answer o status circuit bits out (ReadFault OfBits) e m r h =
+refused_answer o status circuit bits out disk after old old_after (ReadFault OfBits) e m r h =
     inr (inr (read_fault o circuit bits status o.generated refl e m.0 r (λ k. reading_bits o circuit bits r m.1 m.2 k) h))
-refused_answer o status circuit bits out (WriteFault n) e m r h =
-    absurd (input_not_refused o circuit bits o.generated m.1.0.value m.1.0.indices m.1.0.input (printed_not_refused o circuit bits out _ m.1.0) r h)
-refused_answer o status circuit bits out Memory e m r h = inr (inl e)
+refused_answer o status circuit bits out disk after old old_after DiskFault e m r h = absurd (taken_not_refused o circuit bits m.0.0 m.0.1 r h)
+refused_answer o status circuit bits out disk after old old_after (Journal s) e m r h = absurd (taken_not_refused o circuit bits m.0 m.1 r h)
+refused_answer o status circuit bits out disk after old old_after (WriteFault n) e m r h =
+    absurd (input_not_refused o circuit bits o.generated m.1.0.value m.1.0.indices m.1.0.input (printed_not_refused o circuit bits out after _ m.1.0) r h)
+refused_answer o status circuit bits out disk after old old_after Memory e m r h = inr (inl e)
 
 -- ---- how a request whose words alone are refused may stop
-reads : (o : Options) (circuit bits : Seen) → o.generated ≡ None → Rises circuit ⊎ Rises bits → SourceRises o.generated circuit bits
+pub reads : (o : Options) (circuit bits : Seen) → o.generated ≡ None → Rises circuit ⊎ Rises bits → SourceRises o.generated circuit bits
 reads o circuit bits e rose = subst (λ g. SourceRises g circuit bits) (sym e) rose
 
-pub words_answer : (o : Options) (status : ℕ) (circuit bits out : Seen) (stop : Stop) → status ≡ status_of stop → MayStopBy o circuit bits out stop → RefusesAll o
+pub words_answer : (o : Options) (status : ℕ) (circuit bits out : Seen) (disk after old old_after : Face) (stop : Stop) → status ≡ status_of stop → MayStopBy o circuit bits out disk after old old_after stop → RefusesAll o
     → (status ≡ 2) ⊎ ((status ≡ 7) ⊎ ((status ≡ 4) × SourceRises o.generated circuit bits))
-words_answer o status circuit bits out Usage e m all = absurd m
-words_answer o status circuit bits out (Refused s) e m all = inl e
-words_answer o status circuit bits out (OverflowGate gate) e m all =
+words_answer o status circuit bits out disk after old old_after Usage e m all = absurd m
+words_answer o status circuit bits out disk after old old_after (Refused s) e m all = inl e
+words_answer o status circuit bits out disk after old old_after (OverflowGate gate) e m all =
     let f = all m.value m.indices in
     absurd (narrow_not_refused o m.value m.indices m.narrow f.0 (subst (λ q. PlanRefusesBy q o m.value m.indices f.0) m.uncut f.1))
-words_answer o status circuit bits out (OverflowPath path) e m all =
-    let f = all m.value m.indices in
-    absurd (planned_not_refused o m.part m.value m.indices m.job m.planned f.0 (subst (λ q. PlanRefusesBy q o m.value m.indices f.0) m.cut f.1))
-words_answer o status circuit bits out (ReadFault OfCircuit) e m all = inr (inr (e, reads o circuit bits m.0 (inl m.1)))
-words_answer o status circuit bits out (ReadFault OfBits) e m all = inr (inr (e, reads o circuit bits m.0 (inr m.1)))
-words_answer o status circuit bits out (WriteFault n) e m all =
+words_answer o status circuit bits out disk after old old_after (OverflowPath path) e m all = absurd (taken_not_words o circuit bits m.job m.taken all)
+words_answer o status circuit bits out disk after old old_after DiskFault e m all = absurd (taken_not_words o circuit bits m.0.0 m.0.1 all)
+words_answer o status circuit bits out disk after old old_after (Journal s) e m all = absurd (taken_not_words o circuit bits m.0 m.1 all)
+words_answer o status circuit bits out disk after old old_after (ReadFault OfCircuit) e m all = inr (inr (e, reads o circuit bits m.0 (inl m.1)))
+words_answer o status circuit bits out disk after old old_after (ReadFault OfBits) e m all = inr (inr (e, reads o circuit bits m.0 (inr m.1)))
+words_answer o status circuit bits out disk after old old_after (WriteFault n) e m all =
     let f = all m.1.0.value m.1.0.indices in
-    absurd (printed_not_refused o circuit bits out _ m.1.0 f.0 f.1)
-words_answer o status circuit bits out Memory e m all = inr (inl e)
-
--- what was printed is not what words alone refuse
-pub words_printed : (o : Options) (circuit bits out : Seen) → Prints o circuit bits out (λ text. text) → RefusesAll o → ⊥
-words_printed o circuit bits out p all = let f = all p.value p.indices in printed_not_refused o circuit bits out _ p f.0 f.1
+    absurd (printed_not_refused o circuit bits out after _ m.1.0 f.0 f.1)
+words_answer o status circuit bits out disk after old old_after Memory e m all = inr (inl e)
 
 -- ---- how an accepted request stops where no fault came
-accepted_not_refused : (o : Options) (circuit bits : Option (List ℕ)) (g : Option GenSize) (c : Circuit) (xs : List ℕ) → HasInput g o.max_time circuit bits c xs
+pub accepted_not_refused : (o : Options) (circuit bits : Option (List ℕ)) (g : Option GenSize) (c : Circuit) (xs : List ℕ) → HasInput g o.max_time circuit bits c xs
     → ((fault : PlanFault) → PlanRefuses o c xs fault → ⊥) → (r : Refusal) → RefusesBy g (λ known P. IfSome known P) o r circuit bits → ⊥
 accepted_not_refused o None bits None c xs a ok r h = absurd a.0
 accepted_not_refused o (Some cb) None None c xs a ok r h = absurd a.1
@@ -331,92 +378,11 @@ accepted_not_refused o circuit bits (Some size) c xs a ok r h = by_size r h
         ok fault (subst (λ ys. PlanRefuses o c ys fault) (sym a.indices)
         (subst (λ d. PlanRefuses o d (first_indices d.qubits) fault) (sym a.circuit) h))
 
-accepted_answer : (o : Options) (status : ℕ) (circuit bits out : Seen) → (SourceRises o.generated circuit bits ⊎ Rises out → ⊥)
-    → (stop : Stop) → status ≡ status_of stop → MayStopBy o circuit bits out stop
-    → (c : Circuit) (xs : List ℕ) → HasInput o.generated o.max_time circuit.before bits.before c xs → ((fault : PlanFault) → PlanRefuses o c xs fault → ⊥)
-    → (status ≡ 0) ⊎ ((status ≡ 3) ⊎ (status ≡ 7))
-accepted_answer o status circuit bits out none Usage e m c xs a ok = absurd m
-accepted_answer o status circuit bits out none (Refused r) e m c xs a ok = absurd (accepted_not_refused o circuit.before bits.before o.generated c xs a ok r m.1)
-accepted_answer o status circuit bits out none (OverflowGate gate) e m c xs a ok = inr (inl e)
-accepted_answer o status circuit bits out none (OverflowPath path) e m c xs a ok = inr (inl e)
-accepted_answer o status circuit bits out none (ReadFault OfCircuit) e m c xs a ok = absurd (none (inl (reads o circuit bits m.0 (inl m.1))))
-accepted_answer o status circuit bits out none (ReadFault OfBits) e m c xs a ok = absurd (none (inl (reads o circuit bits m.0 (inr m.1))))
-accepted_answer o status circuit bits out none (WriteFault n) e m c xs a ok = absurd (none (inr m.0))
-accepted_answer o status circuit bits out none Memory e m c xs a ok = inr (inr e)
-
--- ---- the whole answer where no fault came
-same_some : (p q : Options) → ◌≡◌ {A = Option Options} (Some p) (Some q) → p ≡ q
-same_some p q e = cc
-
-none_is_some : (q : Options) → ◌≡◌ {A = Option Options} None (Some q) → ⊥
-none_is_some q e = cc
-
-some_is_none : (p : Options) → ◌≡◌ {A = Option Options} (Some p) None → ⊥
-some_is_none p e = cc
-
--- what ended well was not refused
-pub ok_refused : (q : Option Options) (o : Options) (circuit bits out : Seen) → IsSomeAnd q (λ p. Prints p circuit bits out (λ text. text)) → q ≡ Some o
+-- ---- what was printed is no refusal
+pub printed_refused : (o : Options) (circuit bits out : Seen) (after : Face) → Prints o circuit bits out after (λ text. text)
     → (r : Refusal) → Refuses (λ known P. IsSomeAnd known P) o r circuit.before bits.before → ⊥
-ok_refused None o circuit bits out h e r k = absurd h
-ok_refused (Some p) o circuit bits out h e r k =
-    input_not_refused p circuit bits p.generated h.value h.indices h.input (printed_not_refused p circuit bits out _ h) r
-    (subst (λ o. Refuses (λ known P. IsSomeAnd known P) o r circuit.before bits.before) (sym (same_some p o e)) k)
+printed_refused o circuit bits out after p r h =
+    input_not_refused o circuit bits o.generated p.value p.indices p.input (printed_not_refused o circuit bits out after _ p) r h
 
-pub ok_words : (q : Option Options) (o : Options) (circuit bits out : Seen) → IsSomeAnd q (λ p. Prints p circuit bits out (λ text. text)) → q ≡ Some o → RefusesAll o → ⊥
-ok_words None o circuit bits out h e all = absurd h
-ok_words (Some p) o circuit bits out h e all = words_printed p circuit bits out h (subst RefusesAll (sym (same_some p o e)) all)
-
-pub ok_answers : (o : Option Options) (circuit bits out : Seen)
-    → IsSomeAnd o (λ p. Prints p circuit bits out (λ text. text)) → Answers o circuit.before bits.before 0
-ok_answers None circuit bits out h = absurd h
-ok_answers (Some p) circuit bits out h = record {
-  usage = λ e. absurd (some_is_none p e);
-  refused = λ q e r k. absurd (ok_refused (Some p) q circuit bits out h e r k);
-  refused_by_words = λ q e all. absurd (ok_words (Some p) q circuit bits out h e all);
-  accepted = λ q e c xs a ok. inl refl;
-}
-
-files_rose : (circuit bits : Seen) (r : Refusal) → (Rises circuit ⊎ Rises bits → ⊥) → FilesReading circuit bits r → ⊥
-files_rose circuit bits CircuitTooLong none h = none (inl h)
-files_rose circuit bits (CircuitLine line why) none h = none (inl h)
-files_rose circuit bits BitsTooLong none h = none h
-files_rose circuit bits (BitsLine line why) none h = none h
-files_rose circuit bits (Plan fault) none h = none h
-
-none_rose : (g : Option GenSize) (circuit bits : Seen) (r : Refusal) → (SourceRises g circuit bits → ⊥) → ReadingBy g circuit bits r → ⊥
-none_rose None circuit bits r none h = files_rose circuit bits r none h
-none_rose (Some size) circuit bits r none h = h
-
-two_or_seven : (status : ℕ) (R : Type 0) → (R → ⊥) → (status ≡ 2) ⊎ ((status ≡ 7) ⊎ ((status ≡ 4) × R)) → (status ≡ 2) ⊎ (status ≡ 7)
-two_or_seven status R n (inl e) = inl e
-two_or_seven status R n (inr (inl e)) = inr e
-two_or_seven status R n (inr (inr e)) = absurd (n e.1)
-
-one_or_seven : (status : ℕ) (circuit bits out : Seen) (stop : Stop) → status ≡ status_of stop → MayStop None circuit bits out stop → (status ≡ 1) ⊎ (status ≡ 7)
-one_or_seven status circuit bits out Usage e m = inl e
-one_or_seven status circuit bits out (Refused r) e m = absurd m
-one_or_seven status circuit bits out (OverflowGate gate) e m = absurd m
-one_or_seven status circuit bits out (OverflowPath path) e m = absurd m
-one_or_seven status circuit bits out (ReadFault input) e m = absurd m
-one_or_seven status circuit bits out (WriteFault n) e m = absurd m
-one_or_seven status circuit bits out Memory e m = inr e
-
-pub err_answers : (o : Option Options) (status : ℕ) (circuit bits out : Seen) → (FaultCame o circuit bits out → ⊥)
-    → (stop : Stop) → status ≡ status_of stop → MayStop o circuit bits out stop → Answers o circuit.before bits.before status
-err_answers None status circuit bits out none stop e m = record {
-  usage = λ n. one_or_seven status circuit bits out stop e m;
-  refused = λ q n r k. absurd (none_is_some q n);
-  refused_by_words = λ q n all. absurd (none_is_some q n);
-  accepted = λ q n c xs a ok. absurd (none_is_some q n);
-}
-err_answers (Some p) status circuit bits out none stop e m = record {
-  usage = λ n. absurd (some_is_none p n);
-  refused = λ q n r k. two_or_seven status (Reading p circuit bits r) (none_rose p.generated circuit bits r (λ rose. none (inl rose)))
-      (refused_answer p status circuit bits out stop e m r (subst (λ o. Refuses (λ known P. IsSomeAnd known P) o r circuit.before bits.before) (sym (same_some p q n)) k));
-  refused_by_words = λ q n all. two_or_seven status (SourceRises p.generated circuit bits) (λ rose. none (inl rose))
-      (words_answer p status circuit bits out stop e m (subst RefusesAll (sym (same_some p q n)) all));
-  accepted = λ q n c xs a ok.
-      accepted_answer p status circuit bits out none stop e m c xs
-      (subst (λ (o : Options). HasInput o.generated o.max_time circuit.before bits.before c xs) (sym (same_some p q n)) a)
-      (λ fault k. ok fault (subst (λ (o : Options). PlanRefuses o c xs fault) (same_some p q n) k));
-}
+pub printed_words : (o : Options) (circuit bits out : Seen) (after : Face) → Prints o circuit bits out after (λ text. text) → RefusesAll o → ⊥
+printed_words o circuit bits out after p all = let f = all p.value p.indices in printed_not_refused o circuit bits out after _ p f.0 f.1

@@ -3,5 +3,11 @@ pub mod Saying
 pub mod Words
 pub mod Strings
 pub mod Causes
+pub mod Inputs
+pub mod Journals
+pub mod Ends
+pub mod Sums
+pub mod Runs
+pub mod Unique
 pub mod Values
 mod FirstIndices

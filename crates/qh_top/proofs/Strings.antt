@@ -20,7 +20,9 @@ use Rattle.qh_ring.specs.declared.number.Omega.{Omega}
 use Rattle.qh_ring.specs.declared.canon.Canon.{Canon}
 use Rattle.qh_gates.specs.Circuits.{Circuit, total_weight}
 use Rattle.qh_gates.specs.Evolution.{uncut}
-use Rattle.qh_plan.specs.Jobs.{Job}
+use Rattle.qh_plan.specs.Jobs.{Job, IsJob}
+use Rattle.qh_plan.specs.declared.verdict.Verdict.TheVariants.{Sum}
+use Rattle.qh_meaning.specs.Values.{run_value}
 use Rattle.qh_plan.specs.Plans.{job_of, AreBits}
 use Rattle.qh_meaning.specs.Asked.{asked}
 use Rattle.qh_text.specs.Bitstrings.{index_of, bits_text, is_bitstring}
@@ -33,8 +35,11 @@ use Rattle.qh_words.specs.declared.size.GenSize.{GenSize}
 use Rattle.qh_top.specs.Seen.{Seen}
 use Rattle.qh_top.specs.Inputs.{IsInput, asked_strings, first_indices}
 use Rattle.qh_top.specs.Lines.{AreLines, value_words}
-use Rattle.qh_top.specs.Answer.{IsPlannedJob, IsAnswerBy}
-use Rattle.qh_top.specs.Indexed.{IsIndexedBy}
+use Rattle.qh_disk.specs.Disk.{Face}
+use Rattle.qh_top.specs.Jobs.{IsPlannedJob, job_strings, keeping}
+use Rattle.qh_top.specs.Answer.{IsAnswerBy, IsCutAnswer, IsValuesText, IsJobText}
+use Rattle.qh_top.specs.Indexed.{IsIndexedBy, IsCutText, IsSumsText}
+use Rattle.qh_top.proofs.Sums.{sums_are_asked, none_over, not_kept}
 use Rattle.qh_top.proofs.FirstIndices.{first_bits}
 
 -- ---- lines
@@ -141,33 +146,53 @@ module _ (T : ℕ) (circuit bits : Seen) (c : Circuit) (xs : List ℕ) where
   asked_indices (Some size) h =
       index_named c.qubits xs (subst (All (λ x. x < 2 ^ c.qubits)) (sym h.indices) (first_bits c.qubits (min (2 ^ c.qubits) 8) refl).below)
 
--- each line of the text begins with its string
-pub named_by : (part : Option (List ℕ)) (o : Options) (c : Circuit) (xs : List ℕ) (ss : List (List ℕ)) (text : List ℕ) → ss ≡ map (bits_text c.qubits) xs → All (λ x. x < 2 ^ c.qubits) xs
-    → IsIndexedBy part o c xs text → IsAnswerBy part o c ss text
-named_by part o c xs ss text e below h = subst (λ ss. IsAnswerBy part o c ss text) (sym e) (spelled part h)
-  where
-    lines_at : (f : ℕ → Omega) (lines : List ℕ) → IsText c.qubits (total_weight c.gates) xs (map f xs) lines
-        → AreLines (total_weight c.gates) (map (bits_text c.qubits) xs) (map (λ s. f (index_of s)) (map (bits_text c.qubits) xs)) lines
-    lines_at f lines t =
-        subst (λ zs. AreLines (total_weight c.gates) (map (bits_text c.qubits) xs) zs lines) (values_named c.qubits f xs below)
-        (lines_named c.qubits (total_weight c.gates) xs (map f xs) lines t)
+-- ---- each line of the text begins with its string
+values_text : (g : Option GenSize) (j : Job) (sums : List Omega) (text : List ℕ) → IsSumsText g j sums text → IsValuesText g j (job_strings j) sums text
+values_text g j sums text h = record {
+  lines = h.lines;
+  are_lines = lines_named j.circuit.qubits (total_weight j.circuit.gates) j.bits sums h.lines h.are_lines;
+  text_is = h.text_is;
+}
 
-    spelled : (part : Option (List ℕ)) → IsIndexedBy part o c xs text → IsAnswerBy part o c (map (bits_text c.qubits) xs) text
-    spelled None h = record { narrow = h.narrow; never = h.never; lines = h.lines; are_lines = lines_at (uncut c.gates) h.lines h.are_lines; text_is = h.text_is }
-    spelled (Some part) h =
-        let d : h.job.circuit ≡ c = ap (λ (j : Job). j.circuit) h.planned.job in
-        let b : h.job.bits ≡ xs = ap (λ (j : Job). j.bits) h.planned.job in
-        record {
-          job = h.job;
-          planned = subst (λ ys. IsPlannedJob o part c ys h.job) (sym (index_named c.qubits xs below)) h.planned;
-          none = h.none;
-          text_is = record {
-            lines = h.text_is.lines;
-            are_lines =
-                subst (λ (c' : Circuit). AreLines (total_weight c'.gates) (map (bits_text c.qubits) xs) (map (λ s. asked h.job (index_of s)) (map (bits_text c.qubits) xs)) h.text_is.lines) (sym d)
-                (lines_at (asked h.job) h.text_is.lines
-                (subst (λ ys. IsText c.qubits (total_weight c.gates) ys (map (asked h.job) ys) h.text_is.lines) b
-                (subst (λ (c' : Circuit). IsText c'.qubits (total_weight c'.gates) h.job.bits (map (asked h.job) h.job.bits) h.text_is.lines) d h.text_is.are_lines)));
-            text_is = h.text_is.text_is;
-          };
-        }
+-- sums that are the value of the run
+pub asked_text : (g : Option GenSize) (j : Job) (sums : List Omega) (text : List ℕ) → IsJob j → run_value j ≡ Sum sums → IsSumsText g j sums text → IsJobText g j (job_strings j) text
+asked_text g j sums text is e h =
+    let same : sums ≡ map (λ s. asked j (index_of s)) (job_strings j) = sums_are_asked j sums is e ∙ values_named j.circuit.qubits (asked j) j.bits is.bits_below in
+    record { none = none_over j sums e; values = subst (λ zs. IsValuesText g j (job_strings j) zs text) same (values_text g j sums text h) }
+
+cut_named : (o : Options) (disk after old : Face) (grants grants_after : ℕ) (part : List ℕ) (c : Circuit) (xs text : List ℕ) → All (λ x. x < 2 ^ c.qubits) xs
+    → IsCutText o disk after old grants grants_after part c xs text → IsCutAnswer o after part c (map (bits_text c.qubits) xs) text
+cut_named o disk after old grants grants_after part c xs text below h =
+    let d : h.job.circuit ≡ c = ap (λ (j : Job). j.circuit) h.planned.job in
+    let b : h.job.bits ≡ xs = ap (λ (j : Job). j.bits) h.planned.job in
+    let ss : job_strings h.job ≡ map (bits_text c.qubits) xs = ap (λ (v : Circuit). map (bits_text v.qubits) h.job.bits) d ∙ ap (map (bits_text c.qubits)) b in
+    record {
+      job = h.job;
+      planned = subst (λ ys. IsPlannedJob o part c ys h.job) (sym (index_named c.qubits xs below)) h.planned;
+      slots = h.run.whole.slots;
+      ended = h.run.whole.ended;
+      full = h.run.whole.full;
+      text_is = record {
+        sums = h.sums;
+        total_is = h.run.whole.total_is;
+        values = subst (λ ss. IsValuesText o.generated h.job ss h.sums text) ss (values_text o.generated h.job h.sums text h.text_is);
+      };
+      unkept = λ none. subst (λ ss. IsJobText o.generated h.job ss text) ss
+          (asked_text o.generated h.job h.sums text h.valid (sym (h.run.unkept (not_kept o none))) h.text_is);
+    }
+
+pub named_by : (part : Option (List ℕ)) (o : Options) (disk after old : Face) (grants grants_after : ℕ) (c : Circuit) (xs : List ℕ) (ss : List (List ℕ)) (text : List ℕ)
+    → ss ≡ map (bits_text c.qubits) xs → All (λ x. x < 2 ^ c.qubits) xs
+    → IsIndexedBy part o disk after old grants grants_after c xs text → IsAnswerBy part o after c ss text
+named_by part o disk after old grants grants_after c xs ss text e below h = subst (λ ss. IsAnswerBy part o after c ss text) (sym e) (spelled part h)
+  where
+    spelled : (part : Option (List ℕ)) → IsIndexedBy part o disk after old grants grants_after c xs text → IsAnswerBy part o after c (map (bits_text c.qubits) xs) text
+    spelled None h = record {
+      narrow = h.narrow;
+      never = h.never;
+      lines = h.lines;
+      are_lines = subst (λ zs. AreLines (total_weight c.gates) (map (bits_text c.qubits) xs) zs h.lines) (values_named c.qubits (uncut c.gates) xs below)
+          (lines_named c.qubits (total_weight c.gates) xs (map (uncut c.gates) xs) h.lines h.are_lines);
+      text_is = h.text_is;
+    }
+    spelled (Some part) h = cut_named o disk after old grants grants_after part c xs text below h

@@ -2,17 +2,22 @@
 use Rattle.std.specs.Prelude.{◌≡◌, ℕ, ◌≤◌, List, [], ◌∷◌, ◌++◌, length, map, codes, decimal, Option, Some, None}
 use Rattle.qh_gates.specs.Circuits.{Circuit, total_weight}
 use Rattle.qh_gates.specs.Evolution.{uncut, NeverOver}
-use Rattle.qh_plan.specs.Items.{items_of, AreNumbers}
+use Rattle.qh_ring.specs.declared.number.Omega.{Omega}
+use Rattle.qh_plan.specs.declared.verdict.Verdict.TheVariants.{Sum}
 use Rattle.qh_plan.specs.Jobs.{Job, crossing, ranges}
-use Rattle.qh_plan.specs.Plans.{first_fault, job_of}
+use Rattle.qh_plan.specs.Verdicts.{total}
 use Rattle.qh_meaning.specs.Asked.{asked}
 use Rattle.qh_meaning.specs.Laws.{NoneOver}
 use Rattle.qh_text.specs.Bitstrings.{index_of}
 use Rattle.qh_text.specs.Words.{word_of}
+use Rattle.qh_disk.specs.Disk.{Face}
+use Rattle.qh_slots.specs.Stands.{Slots, slot_at}
+use Rattle.qh_record.specs.Record.{IsEnd, IsFull}
 use Rattle.qh_words.specs.declared.options.Options.{Options}
 use Rattle.qh_words.specs.declared.size.GenSize.{GenSize}
 use Rattle.qh_limits.specs.Limits.{max_uncut_qubits}
 use Rattle.qh_top.specs.Lines.{AreLines}
+use Rattle.qh_top.specs.Jobs.{IsPlannedJob, keeping}
 
 -- gen n g K c r: the numbers of qubits, gates, scaled gates, crossing gates and ranges
 unfoldable pub gen_line : Circuit → ℕ → ℕ → List ℕ
@@ -33,31 +38,38 @@ pub record IsUncutAnswer (generated : Option GenSize) (c : Circuit) (strings : L
   pub are_lines : AreLines (total_weight c.gates) strings (map (λ s. uncut c.gates (index_of s)) strings) lines
   pub text_is : text ≡ head_text generated c 0 0 ++ lines
 
--- the job that a part and the options plan
-pub record IsPlannedJob (o : Options) (part : List ℕ) (c : Circuit) (xs : List ℕ) (j : Job) : Type 0 where
-  pub items : List ℕ
-  pub numbers : AreNumbers (items_of part) items
-  pub accepted : first_fault c items o.p o.r o.w xs ≡ None
-  pub job : j ≡ job_of c items o.p o.r o.w xs
-
--- the amplitudes that a job asks for at these strings, behind the first line where the circuit is generated
-pub record IsJobText (generated : Option GenSize) (j : Job) (strings : List (List ℕ)) (text : List ℕ) : Type 0 where
+-- the lines of these values of a job at these strings, behind the first line where the circuit is generated
+pub record IsValuesText (generated : Option GenSize) (j : Job) (strings : List (List ℕ)) (values : List Omega) (text : List ℕ) : Type 0 where
   pub lines : List ℕ
-  pub are_lines : AreLines (total_weight j.circuit.gates) strings (map (λ s. asked j (index_of s)) strings) lines
+  pub are_lines : AreLines (total_weight j.circuit.gates) strings values lines
   pub text_is : text ≡ head_text generated j.circuit (crossing j) (ranges j) ++ lines
 
--- the text of the job that is planned, none of whose paths is over
-pub record IsCutAnswer (o : Options) (part : List ℕ) (c : Circuit) (strings : List (List ℕ)) (text : List ℕ) : Type 0 where
+-- the amplitudes that a job asks for at these strings; no path of it is over
+pub record IsJobText (generated : Option GenSize) (j : Job) (strings : List (List ℕ)) (text : List ℕ) : Type 0 where
+  pub none : NoneOver j
+  pub values : IsValuesText generated j strings (map (λ s. asked j (index_of s)) strings) text
+
+-- what the slots of a job add up to, which is a sum
+pub record IsTotalText (generated : Option GenSize) (j : Job) (s : Slots) (strings : List (List ℕ)) (text : List ℕ) : Type 0 where
+  pub sums : List Omega
+  pub total_is : total j (slot_at s) ≡ Sum sums
+  pub values : IsValuesText generated j strings sums text
+
+-- the text of the job that is planned, by the slots that the call ends with; where no journal is kept, what the job asks for
+pub record IsCutAnswer (o : Options) (after : Face) (part : List ℕ) (c : Circuit) (strings : List (List ℕ)) (text : List ℕ) : Type 0 where
   pub job : Job
   pub planned : IsPlannedJob o part c (map index_of strings) job
-  pub none : NoneOver job
-  pub text_is : IsJobText o.generated job strings text
+  pub slots : Slots
+  pub ended : IsEnd (keeping o) job after slots
+  pub full : IsFull job slots
+  pub text_is : IsTotalText o.generated job slots strings text
+  pub unkept : o.journal ≡ None → IsJobText o.generated job strings text
 
 -- with a part 1 the circuit is cut, and else it is not
-abbrev pub IsAnswerBy : Option (List ℕ) → Options → Circuit → List (List ℕ) → List ℕ → Type 0
-IsAnswerBy None o c strings text = IsUncutAnswer o.generated c strings text
-IsAnswerBy (Some part) o c strings text = IsCutAnswer o part c strings text
+abbrev pub IsAnswerBy : Option (List ℕ) → Options → Face → Circuit → List (List ℕ) → List ℕ → Type 0
+IsAnswerBy None o after c strings text = IsUncutAnswer o.generated c strings text
+IsAnswerBy (Some part) o after c strings text = IsCutAnswer o after part c strings text
 
--- the text that the options ask for of a circuit at these strings
-abbrev pub IsAnswer : Options → Circuit → List (List ℕ) → List ℕ → Type 0
-IsAnswer o c strings text = IsAnswerBy o.part o c strings text
+-- the text that the options ask for of a circuit at these strings; `after` is the disk of the journal when the call ends
+abbrev pub IsAnswer : Options → Face → Circuit → List (List ℕ) → List ℕ → Type 0
+IsAnswer o after c strings text = IsAnswerBy o.part o after c strings text

@@ -1,5 +1,5 @@
 -- The circuit and the basis indices of a request: from two texts, or generated.
-use Rattle.std.specs.Prelude.{◌≡◌, ℕ, ◌^◌, ◌≤◌, min, List, length, map, Option, Some, None, Ok, Err}
+use Rattle.std.specs.Prelude.{◌≡◌, ℕ, ◌^◌, ◌≤◌, min, List, length, map, Option, Some, None, Ok, Err, IsSomeAnd}
 use Rattle.std.specs.List.{range_with_len}
 use Rattle.qh_limits.specs.Limits.{max_circuit_bytes, max_bits_bytes}
 use Rattle.qh_text.specs.Bitstrings.{bits_text}
@@ -61,3 +61,8 @@ IsInput (Some size) T circuit bits c xs = IsGenerated size c xs
 abbrev pub asked_strings : (g : Option GenSize) (T : ℕ) (circuit bits : Seen) (c : Circuit) (xs : List ℕ) → IsInput g T circuit bits c xs → List (List ℕ)
 asked_strings None T circuit bits c xs input = strings_of input.bits_bytes
 asked_strings (Some size) T circuit bits c xs input = map (bits_text c.qubits) xs
+
+-- the same by what the sources tell at entry: two accepted files, or a size, which asks nothing of what they tell
+abbrev pub HasInput : Option GenSize → ℕ → Option (List ℕ) → Option (List ℕ) → Circuit → List ℕ → Type 0
+HasInput None T circuit bits c xs = IsSomeAnd circuit (IsCircuitFile T c) × IsSomeAnd bits (IsBitsFile c xs)
+HasInput (Some size) T circuit bits c xs = IsGenerated size c xs

@@ -2,6 +2,7 @@
 pub mod Seen
 pub mod Inputs
 pub mod Lines
+pub mod Jobs
 pub mod Answer
 pub mod Indexed
 pub mod Refusals

@@ -7,3 +7,5 @@ pub record AreNames (o : Options) (names : Names) : Type 0 where
   pub circuit : names.circuit ≡ o.circuit
   pub bits : names.bits ≡ o.bits
   pub out : names.out ≡ o.out
+  pub journal : names.journal ≡ o.journal
+  pub old : names.old ≡ o.from

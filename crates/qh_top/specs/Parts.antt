@@ -1,23 +1,33 @@
 -- What the parts of the call stop with.
-use Rattle.std.specs.Prelude.{◌≡◌, ℕ, ◌<◌, ◌≤◌, List, length, IfSome, Option, Some, None}
-use Rattle.qh_limits.specs.Limits.{max_uncut_qubits, max_circuit_bytes, max_bits_bytes}
+use Rattle.std.specs.Prelude.{◌≡◌, ℕ, ◌<◌, ◌≤◌, true, false, List, length, All, IfSome, IsSome, Option, Some, None}
+use Rattle.qh_limits.specs.Limits.{max_uncut_qubits, max_circuit_bytes, max_bits_bytes, coefficient_bits}
+use Rattle.qh_ring.specs.declared.number.Omega.{Omega}
+use Rattle.qh_ring.specs.Numbers.{IsWithin}
 use Rattle.qh_gates.specs.Circuits.{Circuit}
 use Rattle.qh_gates.specs.Evolution.{IsUncutOver}
 use Rattle.qh_plan.specs.Jobs.{Job}
 use Rattle.qh_plan.specs.declared.fault.PlanFault.{PlanFault}
 use Rattle.qh_plan.specs.declared.fault.PlanFault.TheVariants.{UncutTooWide as Wide}
 use Rattle.qh_plan.specs.declared.verdict.Verdict.TheVariants.{Over}
-use Rattle.qh_meaning.specs.Values.{run_value}
+use Rattle.qh_disk.specs.Disk.{Face}
+use Rattle.qh_disk.specs.Moments.{Runs}
+use Rattle.qh_record.specs.Record.{Keeping}
+use Rattle.qh_record.specs.Moments.{IsUnwritten, IsReadOnly}
+use Rattle.qh_record.specs.Keeps.{KeepsJournal}
 use Rattle.qh_words.specs.declared.options.Options.{Options}
 use Rattle.qh_words.specs.declared.size.GenSize.{GenSize}
 use Rattle.qh_top.specs.Seen.{Seen, Rises}
 use Rattle.qh_top.specs.Inputs.{IsCircuitFile, IsFaultyCircuit, AreFaultyBits}
-use Rattle.qh_top.specs.Answer.{IsPlannedJob}
-use Rattle.qh_top.specs.Refusals.{PlanRefusesBy}
+use Rattle.qh_top.specs.Jobs.{IsPlannedJob, Takes, keeping}
+use Rattle.qh_top.specs.Refusals.{PlanRefusesBy, JournalRefuses, DisksRise}
+use Rattle.qh_top.specs.Request.{IsRun, RunIsWhole, EndsWhole}
 use Rattle.qh_top.specs.declared.stop.Refusal.TheVariants.{CircuitTooLong, CircuitLine, BitsTooLong, BitsLine, Plan}
+use Rattle.qh_run.specs.declared.ended.RunEnd.{RunEnd}
+use Rattle.qh_run.specs.declared.ended.RunEnd.TheVariants.{Sums, Over as PathOver, Disk, OldDisk, Refused as RunRefused, OldRefused, Memory as RunMemory}
+use Rattle.qh_top.specs.declared.stop.JournalRefusal.TheVariants.{OfJournal, OfOld}
 use Rattle.qh_top.specs.declared.stop.Input.TheVariants.{OfCircuit, OfBits}
 use Rattle.qh_top.specs.declared.stop.Stop.{Stop}
-use Rattle.qh_top.specs.declared.stop.Stop.TheVariants.{Refused, OverflowGate, OverflowPath, ReadFault, Memory}
+use Rattle.qh_top.specs.declared.stop.Stop.TheVariants.{Refused, OverflowGate, OverflowPath, ReadFault, DiskFault, Memory, Journal}
 
 -- what a call that reads the circuit stops with
 abbrev pub CircuitMayStop : ℕ → Option (List ℕ) → Type 0 → Stop → Type 0
@@ -64,20 +74,69 @@ PlanMayStop P (Refused (Plan fault)) = P fault
 PlanMayStop P Memory = Unit {0}
 PlanMayStop P _ = ⊥
 
--- one that sums a job's paths
-abbrev pub JobMayStop : Job → Stop → Type 0
-JobMayStop j (OverflowPath path) = run_value j ≡ Over path
-JobMayStop j Memory = Unit {0}
-JobMayStop j _ = ⊥
+-- one that runs a job: its answer is over, or a disk failed, or a journal is refused, which leaves it as it was where it is not to be emptied
+abbrev pub JobMayStop : Keeping → Job → Face → Face → Face → Face → ℕ → ℕ → Stop → Type 0
+JobMayStop k j disk after old old_after grants grants_after (OverflowPath path) = IsRun k j old disk after grants grants_after (Over path)
+JobMayStop k j disk after old old_after grants grants_after DiskFault = DisksRise k disk after old old_after
+JobMayStop k j disk after old old_after grants grants_after Memory = Unit {0}
+JobMayStop k j disk after old old_after grants grants_after (Journal r) =
+    JournalRefuses (λ known P. IfSome known P) k j disk old r × (k.fresh ≡ false → IsUnwritten disk after)
+JobMayStop k j disk after old old_after grants grants_after _ = ⊥
 
--- one that plans and sums
-abbrev pub CutMayStop : Options → List ℕ → Circuit → List ℕ → Stop → Type 0
-CutMayStop o part c xs (Refused (Plan fault)) = PlanRefusesBy (Some part) o c xs fault
-CutMayStop o part c xs (OverflowPath path) = (j : Job) × IsPlannedJob o part c xs j × (run_value j ≡ Over path)
-CutMayStop o part c xs Memory = Unit {0}
-CutMayStop o part c xs _ = ⊥
+-- the stop that the end of a run is
+abbrev pub StopsWith : RunEnd → Stop → Type 0
+StopsWith (Sums sums) stop = ⊥
+StopsWith (PathOver path) stop = stop ≡ OverflowPath path
+StopsWith Disk stop = stop ≡ DiskFault
+StopsWith OldDisk stop = stop ≡ DiskFault
+StopsWith (RunRefused why) stop = stop ≡ Journal (OfJournal why)
+StopsWith (OldRefused why) stop = stop ≡ Journal (OfOld why)
+StopsWith RunMemory stop = stop ≡ Memory
+
+-- one that plans a job and runs it
+pub record PlannedMayStop (o : Options) (part : List ℕ) (c : Circuit) (xs : List ℕ) (disk after old old_after : Face) (grants grants_after : ℕ) (stop : Stop) : Type 0 where
+  pub job : Job
+  pub planned : IsPlannedJob o part c xs job
+  pub stops : JobMayStop (keeping o) job disk after old old_after grants grants_after stop
+
+abbrev pub CutMayStop : Options → List ℕ → Circuit → List ℕ → Face → Face → Face → Face → ℕ → ℕ → Stop → Type 0
+CutMayStop o part c xs disk after old old_after grants grants_after (Refused (Plan fault)) = PlanRefusesBy (Some part) o c xs fault
+CutMayStop o part c xs disk after old old_after grants grants_after Memory = Unit {0}
+CutMayStop o part c xs disk after old old_after grants grants_after stop = PlannedMayStop o part c xs disk after old old_after grants grants_after stop
 
 -- one that answers of a circuit and basis indices
-abbrev pub AnswerMayStop : Option (List ℕ) → Options → Circuit → List ℕ → Stop → Type 0
-AnswerMayStop None o c xs stop = UncutMayStop c stop
-AnswerMayStop (Some part) o c xs stop = CutMayStop o part c xs stop
+abbrev pub AnswerMayStop : Option (List ℕ) → Options → Circuit → List ℕ → Face → Face → Face → Face → ℕ → ℕ → Stop → Type 0
+AnswerMayStop None o c xs disk after old old_after grants grants_after stop = UncutMayStop c stop
+AnswerMayStop (Some part) o c xs disk after old old_after grants grants_after stop = CutMayStop o part c xs disk after old old_after grants grants_after stop
+
+-- sums of a job that can be printed: one for each bitstring, each within 126 bits
+pub record IsPrintable (j : Job) (sums : List Omega) : Type 0 where
+  pub count : length sums ≡ length j.bits
+  pub within : All (IsWithin coefficient_bits) sums
+
+-- ---- what the parts do to the disks, where they call on one: what a run of the planned job does
+pub record JobMoves (k : Keeping) (j : Job) (disk after old old_after : Face) : Type 0 where
+  pub kept : k.kept ≡ true
+  pub keeps : KeepsJournal k j old disk after
+  pub reading : IsReadOnly old old_after
+  pub old_runs : Runs old old_after
+
+pub record PlannedMoves (o : Options) (part : List ℕ) (c : Circuit) (xs : List ℕ) (disk after old old_after : Face) : Type 0 where
+  pub job : Job
+  pub planned : IsPlannedJob o part c xs job
+  pub moves : JobMoves (keeping o) job disk after old old_after
+
+abbrev pub AnswerMoves : Option (List ℕ) → Options → Circuit → List ℕ → Face → Face → Face → Face → Type 0
+AnswerMoves None o c xs disk after old old_after = ⊥
+AnswerMoves (Some part) o c xs disk after old old_after = PlannedMoves o part c xs disk after old old_after
+
+-- the call came to a job that keeps a journal, and did to the disks what a run of that job does
+pub record Moves (o : Options) (circuit bits : Seen) (disk after old old_after : Face) : Type 0 where
+  pub job : Job
+  pub taken : Takes o circuit bits job
+  pub moves : JobMoves (keeping o) job disk after old old_after
+
+-- what a call with this status left beside its text and its stop: of a job, a whole run or none; and no write where a journal was refused
+pub record Ended (o : Options) (circuit bits out : Seen) (disk after old : Face) (grants grants_after status : ℕ) : Type 0 where
+  pub whole : RunIsWhole status → IsSome o.part → EndsWhole o circuit bits out disk after old grants grants_after status
+  pub unwritten : status ≡ 8 → o.fresh ≡ false → IsUnwritten disk after

@@ -1,15 +1,23 @@
 -- When a request is refused.
-use Rattle.std.specs.Prelude.{◌≡◌, ℕ, ◌+◌, ◌<◌, ◌⊎◌, List, length, Option, Some, None, IsSome}
+use Rattle.std.specs.Prelude.{◌≡◌, ℕ, ◌+◌, ◌<◌, ◌⊎◌, List, length, true, Option, Some, None, IsSome}
 use Rattle.qh_limits.specs.Limits.{max_uncut_qubits, max_circuit_bytes, max_bits_bytes}
 use Rattle.qh_gates.specs.Circuits.{Circuit}
 use Rattle.qh_plan.specs.Items.{items_of, AreNumbers, IsItemFault}
 use Rattle.qh_plan.specs.Plans.{first_fault}
+use Rattle.qh_plan.specs.Jobs.{Job}
 use Rattle.qh_plan.specs.declared.fault.PlanFault.{PlanFault}
 use Rattle.qh_plan.specs.declared.fault.PlanFault.TheVariants.{PartText, PrefixRoot, PrefixValue, UncutTooWide as Wide, Memory as PlanMemory}
+use Rattle.qh_counts.specs.Counts.{Rose}
+use Rattle.qh_disk.specs.Disk.{Face}
+use Rattle.qh_record.specs.Record.{Keeping}
+use Rattle.qh_record.specs.Refusing.{RefusesJournal, RefusesOld}
+use Rattle.qh_migrate.specs.Faults.{attach_of}
 use Rattle.qh_words.specs.declared.options.Options.{Options}
 use Rattle.qh_words.specs.declared.size.GenSize.{GenSize}
 use Rattle.qh_top.specs.Seen.{Seen, Rises}
 use Rattle.qh_top.specs.Inputs.{IsCircuitFile, IsBitsFile, IsFaultyCircuit, AreFaultyBits, circuit_by, first_indices}
+use Rattle.qh_top.specs.declared.stop.JournalRefusal.{JournalRefusal}
+use Rattle.qh_top.specs.declared.stop.JournalRefusal.TheVariants.{OfJournal, OfOld}
 use Rattle.qh_top.specs.declared.stop.Refusal.{Refusal}
 use Rattle.qh_top.specs.declared.stop.Refusal.TheVariants.{CircuitTooLong, CircuitLine, BitsTooLong, BitsLine, Plan}
 
@@ -87,3 +95,13 @@ IsOfCut (Some part) o fault =
 abbrev pub IsOfWords : Options → Refusal → Type 0
 IsOfWords o (Plan fault) = IsOfCut o.part o fault
 IsOfWords o r = o.generated ≡ None
+
+-- ---- the journals
+-- the journal of the run is refused, or the old one that is to be taken over
+abbrev pub JournalRefuses : (Option (List ℕ) → (List ℕ → Type 0) → Type 0) → Keeping → Job → Face → Face → JournalRefusal → Type 0
+JournalRefuses Told k j disk old (OfJournal r) = (k.kept ≡ true) × RefusesJournal Told k j disk r
+JournalRefuses Told k j disk old (OfOld r) = (k.kept ≡ true) × RefusesOld Told k j disk old (attach_of r)
+
+-- the count of the journal's disk rose, or that of an old journal that is to be taken over; a run without a journal calls on neither
+abbrev pub DisksRise : Keeping → Face → Face → Face → Face → Type 0
+DisksRise k disk after old old_after = (k.kept ≡ true) × (Rose disk.faults after.faults ⊎ ((k.taking ≡ true) × Rose old.faults old_after.faults))

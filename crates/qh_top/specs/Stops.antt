@@ -8,17 +8,25 @@ use Rattle.qh_bits.specs.declared.faults.BitsWhy.{BitsWhy}
 use Rattle.qh_bits.specs.declared.faults.BitsWhy.TheVariants.{NoStrings, TooMany, Letter, Length}
 use Rattle.qh_plan.specs.declared.fault.PlanFault.{PlanFault}
 use Rattle.qh_plan.specs.declared.fault.PlanFault.TheVariants.{PartText, NoSuchQubit, QubitTwice, EmptyPart, PartTooWide, TooManyCrossing, TooManyPaths, PrefixRoot, PrefixValue, TooManyRanges, JournalTooLong, UncutTooWide, Memory as PlanMemory}
+use Rattle.qh_plan.specs.Jobs.{Job}
+use Rattle.qh_disk.specs.Disk.{Face}
+use Rattle.qh_slots.specs.declared.fault.AttachFault.{AttachFault}
+use Rattle.qh_slots.specs.declared.fault.AttachFault.TheVariants.{DiskFault as AttachDisk, Empty, Unbegun, OldJournal, NotAJournal, OtherJob, BadLength, BadSlot, Memory as AttachMemory}
+use Rattle.qh_migrate.specs.Faults.{attach_of}
 use Rattle.qh_words.specs.declared.options.Options.{Options}
 use Rattle.qh_top.specs.Seen.{Seen, Rises}
 use Rattle.qh_top.specs.declared.stop.Refusal.{Refusal}
 use Rattle.qh_top.specs.declared.stop.Refusal.TheVariants.{CircuitTooLong, CircuitLine, BitsTooLong, BitsLine, Plan}
 use Rattle.qh_top.specs.declared.stop.Input.{Input}
 use Rattle.qh_top.specs.declared.stop.Input.TheVariants.{OfCircuit, OfBits}
+use Rattle.qh_top.specs.declared.stop.JournalRefusal.{JournalRefusal}
+use Rattle.qh_top.specs.declared.stop.JournalRefusal.TheVariants.{OfJournal, OfOld}
 use Rattle.qh_top.specs.declared.stop.Stop.{Stop}
-use Rattle.qh_top.specs.declared.stop.Stop.TheVariants.{Usage, Refused, OverflowGate, OverflowPath, ReadFault, WriteFault, Memory}
+use Rattle.qh_top.specs.declared.stop.Stop.TheVariants.{Usage, Refused, OverflowGate, OverflowPath, ReadFault, DiskFault, WriteFault, Memory, Journal}
 use Rattle.qh_top.specs.Inputs.{IsCircuitFile}
-use Rattle.qh_top.specs.Refusals.{Refuses, IsOfWords}
-use Rattle.qh_top.specs.Request.{Cut, OverflowsAt, OverflowsOn}
+use Rattle.qh_top.specs.Jobs.{Takes, keeping}
+use Rattle.qh_top.specs.Refusals.{Refuses, IsOfWords, JournalRefuses, DisksRise}
+use Rattle.qh_top.specs.Request.{BreaksOff, OverflowsAt, OverflowsOn}
 
 abbrev pub status_of : Stop → ℕ
 status_of Usage = 1
@@ -26,8 +34,10 @@ status_of (Refused r) = 2
 status_of (OverflowGate gate) = 3
 status_of (OverflowPath path) = 3
 status_of (ReadFault input) = 4
+status_of DiskFault = 5
 status_of (WriteFault n) = 6
 status_of Memory = 7
+status_of (Journal r) = 8
 
 -- the end of the line that names a faulty line of a circuit text
 abbrev pub circuit_why : Why → List ℕ
@@ -95,6 +105,31 @@ abbrev pub fault_line : Input → List ℕ
 fault_line OfCircuit = codes "read fault: circuit\n"
 fault_line OfBits = codes "read fault: bitstrings\n"
 
+-- a refusal of a journal: its name, and its number where it has one
+abbrev pub attach_name : AttachFault → List ℕ
+attach_name AttachDisk = codes "DiskFault"
+attach_name Empty = codes "Empty"
+attach_name Unbegun = codes "Unbegun"
+attach_name OldJournal = codes "OldJournal"
+attach_name NotAJournal = codes "NotAJournal"
+attach_name (OtherJob place) = codes "OtherJob at "
+attach_name (BadLength found) = codes "BadLength "
+attach_name (BadSlot range) = codes "BadSlot "
+attach_name AttachMemory = codes "Memory"
+
+abbrev pub attach_number : AttachFault → List ℕ
+attach_number (OtherJob place) = decimal place
+attach_number (BadLength found) = decimal found
+attach_number (BadSlot range) = decimal range
+attach_number _ = []
+
+abbrev pub attach_text : AttachFault → List ℕ
+attach_text r = attach_name r ++ attach_number r ++ codes "\n"
+
+abbrev pub journal_line : JournalRefusal → List ℕ
+journal_line (OfJournal r) = codes "journal: " ++ attach_text r
+journal_line (OfOld r) = codes "old journal: " ++ attach_text (attach_of r)
+
 abbrev pub usage_line : List ℕ
 usage_line = codes "usage: qsimh_amplitudes -c FILE -i FILE [-d T] [-k LIST] [-p N] [-r N] [-w N] [-o FILE] [-t N] [-v N] [-j FILE] [-l SECONDS] [--new] [-g S,R,C,D]\n"
 
@@ -105,26 +140,32 @@ message_of (Refused r) = refusal_line r
 message_of (OverflowGate gate) = codes "overflow: gate " ++ decimal gate ++ codes "\n"
 message_of (OverflowPath path) = codes "overflow: path " ++ decimal path ++ codes "\n"
 message_of (ReadFault input) = fault_line input
+message_of DiskFault = codes "disk fault\n"
 message_of (WriteFault n) = codes "write fault after " ++ decimal n ++ codes " bytes\n"
 message_of Memory = codes "out of memory\n"
+message_of (Journal r) = journal_line r
 
--- when the call may stop so, by the options
-abbrev pub MayStopBy : Options → Seen → Seen → Seen → Stop → Type 0
-MayStopBy o circuit bits out Usage = ⊥
-MayStopBy o circuit bits out (Refused r) = IsOfWords o r × Refuses (λ known P. IfSome known P) o r circuit.before bits.before
-MayStopBy o circuit bits out (OverflowGate gate) = OverflowsAt o circuit bits gate
-MayStopBy o circuit bits out (OverflowPath path) = OverflowsOn o circuit bits path
-MayStopBy o circuit bits out (ReadFault OfCircuit) = (o.generated ≡ None) × Rises circuit
-MayStopBy o circuit bits out (ReadFault OfBits) = (o.generated ≡ None) × Rises bits × IfSome circuit.before (λ text. (c : Circuit) × IsCircuitFile o.max_time c text)
-MayStopBy o circuit bits out (WriteFault n) = Cut o circuit bits out n
-MayStopBy o circuit bits out Memory = Unit {0}
+-- when the call may stop so, by the options: `after` and `old_after` are the two disks when it ends
+abbrev pub MayStopBy : Options → Seen → Seen → Seen → Face → Face → Face → Face → Stop → Type 0
+MayStopBy o circuit bits out disk after old old_after Usage = ⊥
+MayStopBy o circuit bits out disk after old old_after (Refused r) = IsOfWords o r × Refuses (λ known P. IfSome known P) o r circuit.before bits.before
+MayStopBy o circuit bits out disk after old old_after (OverflowGate gate) = OverflowsAt o circuit bits gate
+MayStopBy o circuit bits out disk after old old_after (OverflowPath path) = OverflowsOn o circuit bits after path
+MayStopBy o circuit bits out disk after old old_after (ReadFault OfCircuit) = (o.generated ≡ None) × Rises circuit
+MayStopBy o circuit bits out disk after old old_after (ReadFault OfBits) =
+    (o.generated ≡ None) × Rises bits × IfSome circuit.before (λ text. (c : Circuit) × IsCircuitFile o.max_time c text)
+MayStopBy o circuit bits out disk after old old_after DiskFault = ((j : Job) × Takes o circuit bits j) × DisksRise (keeping o) disk after old old_after
+MayStopBy o circuit bits out disk after old old_after (WriteFault n) = BreaksOff o circuit bits out after n
+MayStopBy o circuit bits out disk after old old_after Memory = Unit {0}
+MayStopBy o circuit bits out disk after old old_after (Journal r) =
+    (j : Job) × Takes o circuit bits j × JournalRefuses (λ known P. IfSome known P) (keeping o) j disk old r
 
 -- words that are no request stop for usage or want of memory, and others for a cause of their options
-abbrev pub MayStop : Option Options → Seen → Seen → Seen → Stop → Type 0
-MayStop None circuit bits out Usage = Unit {0}
-MayStop None circuit bits out Memory = Unit {0}
-MayStop None circuit bits out _ = ⊥
-MayStop (Some o) circuit bits out stop = MayStopBy o circuit bits out stop
+abbrev pub MayStop : Option Options → Seen → Seen → Seen → Face → Face → Face → Face → Stop → Type 0
+MayStop None circuit bits out disk after old old_after Usage = Unit {0}
+MayStop None circuit bits out disk after old old_after Memory = Unit {0}
+MayStop None circuit bits out disk after old old_after _ = ⊥
+MayStop (Some o) circuit bits out disk after old old_after stop = MayStopBy o circuit bits out disk after old old_after stop
 
 -- a sink got a front of a line, and the whole line where its count did not rise
 pub record Says (err : Seen) (line : List ℕ) : Type 0 where

@@ -1,46 +1,65 @@
 //! The call that the program makes.
-ghost use Rattle.std.specs.Prelude.{◌≡◌, ◌≢◌, ◌≤◌, ◌<◌, ◌⊎◌, ℕ, List, Err, Some, None, IfErr, OnOk, IfSome, IsSomeAnd, map};
-ghost use Rattle.std.specs.String.{string_bytes};
-ghost use Rattle.qh_words.specs.Request.{options_of};
+ghost use Rattle.std.specs.Prelude.{◌≡◌, ◌≢◌, ◌≤◌, ◌<◌, ◌⊎◌, ℕ, List, [], true, false, Err, Some, None, IfErr, OnOk, IfSome, IsSome, IsSomeAnd};
+ghost use Rattle.qh_counts.specs.Counts.{RoseBy};
+ghost use Rattle.qh_plan.specs.Jobs.{Job as JobValue, IsJob, ranges};
+ghost use Rattle.qh_disk.specs.Moments.{EachImageSince, IsStableAt, Runs};
+ghost use Rattle.qh_slots.specs.Stands.{Made, Holds};
+ghost use Rattle.qh_record.specs.Record.{counted, taken_over, IfTold, slots_before, Extends, IsFull, Grows, IsFinished, count_bare};
+ghost use Rattle.qh_record.specs.Moments.{IsMade, OldIsMade, BeginsTrue, IsOldOrMade, IsOldOrGoesOn, StaysStable, IsEmptyAt, IsUnwritten, IsReadOnly};
 ghost use Rattle.qh_words.specs.Size.{IsGenSize};
 ghost use Rattle.qh_words.specs.declared.options.Options.{Options as OptionsValue};
 ghost use Rattle.qh_words.specs.declared.size.GenSize.{GenSize as Size};
 ghost use Rattle.qh_top.specs.Seen.{seen};
-ghost use Rattle.qh_top.specs.Refusals.{Refuses, Reading, RefusesAll, SourceRises};
-ghost use Rattle.qh_top.specs.Request.{Prints, Answers, FaultCame};
+ghost use Rattle.qh_top.specs.Jobs.{request, keeping, Asks, Takes};
+ghost use Rattle.qh_top.specs.Refusals.{Refuses, Reading, RefusesAll, SourceRises, JournalRefuses};
+ghost use Rattle.qh_top.specs.Request.{Prints, PrintsAsked, RunIsWhole, EndsWhole, EndsEarly, Answers, FaultCame, FaultFirst};
 ghost use Rattle.qh_top.specs.declared.stop.Refusal.{Refusal as RefusalValue};
+ghost use Rattle.qh_top.specs.declared.stop.JournalRefusal.{JournalRefusal as JournalRefusalValue};
 ghost use Rattle.qh_top.specs.Stops.{status_of, MayStopBy, MayStop, Says, Stops};
+ghost use Rattle.qh_top.specs.Parts.{Moves, Ended};
 
 use crate::answer::answer;
 use crate::input::take_input;
 use crate::say::tell;
 use crate::stop::Stop;
+use qh_disk::Disk;
 use qh_io::{Sink, Source, write_all_of};
+use qh_lease::Timer;
 use qh_words::{Options, WordsFault, read_words};
 use std::alloc::Global;
 
 /// Takes the input that the options ask for, computes, and writes.
-fn run_with<C: Source, B: Source, O: Sink>(
+fn run_with<C: Source, B: Source, O: Sink, D: Disk, F: Disk, T: Timer>(
     alloc: Global,
     options: &Options,
     circuit: &mut C,
     bits: &mut B,
     out: &mut O,
+    disk: &mut D,
+    old: &mut F,
+    timer: &mut T,
 ) -> Result<(), Stop>
     requires { IfSome options.now.generated IsGenSize }
     ensures later_circuit { C.faults circuit.old ≤ C.faults circuit.new }
     ensures later_bits { B.faults bits.old ≤ B.faults bits.new }
     ensures later_out { O.faults out.old ≤ O.faults out.new }
     ensures unread { (size : Size) → options.now.generated ≡ Some size → (circuit.new ≡ circuit.old) × (bits.new ≡ bits.old) }
-    ensures cause { IfErr result (MayStopBy options.now (seen C.left C.faults circuit.old circuit.new) (seen B.left B.faults bits.old bits.new) (seen O.held O.faults out.old out.new)) }
+    ensures cause { IfErr result (MayStopBy options.now (seen C.left C.faults circuit.old circuit.new) (seen B.left B.faults bits.old bits.new) (seen O.held O.faults out.old out.new) (D.face disk.old) (D.face disk.new) (F.face old.old) (F.face old.new)) }
     ensures untouched { IfErr result (λ stop. (status_of stop ≡ 6 → ⊥) → out.new ≡ out.old) }
-    ensures printed { OnOk result (Prints options.now (seen C.left C.faults circuit.old circuit.new) (seen B.left B.faults bits.old bits.new) (seen O.held O.faults out.old out.new) (λ text. text)) }
+    ensures printed { OnOk result (Prints options.now (seen C.left C.faults circuit.old circuit.new) (seen B.left B.faults bits.old bits.new) (seen O.held O.faults out.old out.new) (D.face disk.new) (λ text. text)) }
+    ensures ended { OnOk result (Ended options.now (seen C.left C.faults circuit.old circuit.new) (seen B.left B.faults bits.old bits.new) (seen O.held O.faults out.old out.new) (D.face disk.old) (D.face disk.new) (F.face old.old) (T.granted_count timer.old) (T.granted_count timer.new) 0) }
+    ensures ended_by { IfErr result (λ stop. Ended options.now (seen C.left C.faults circuit.old circuit.new) (seen B.left B.faults bits.old bits.new) (seen O.held O.faults out.old out.new) (D.face disk.old) (D.face disk.new) (F.face old.old) (T.granted_count timer.old) (T.granted_count timer.new) (status_of stop)) }
+    ensures moves { ((disk.new ≡ disk.old) × (old.new ≡ old.old)) ⊎ Moves options.now (seen C.left C.faults circuit.old circuit.new) (seen B.left B.faults bits.old bits.new) (D.face disk.old) (D.face disk.new) (F.face old.old) (F.face old.new) }
+    ensures alone { IfErr result (λ stop. EndsEarly (status_of stop) → (disk.new ≡ disk.old) × (old.new ≡ old.old)) }
+    ensures old_unasked { (options.now.from ≡ None) ⊎ ((options.now.fresh ≡ false) × IsSomeAnd (D.face disk.old).content (λ f. f ≢ [])) → old.new ≡ old.old }
+    ensures loans { D.loans disk.new ≡ D.loans disk.old }
+    ensures old_loans { F.loans old.new ≡ F.loans old.old }
 {
     let (value, indices) = match take_input(alloc, options, circuit, bits) {
         Ok(input) => input,
         Err(stop) => return Err(stop),
     };
-    let text = match answer(alloc, options, value, indices) {
+    let text = match answer(alloc, options, value, indices, disk, old, timer) {
         Ok(text) => text,
         Err(stop) => return Err(stop),
     };
@@ -51,81 +70,191 @@ fn run_with<C: Source, B: Source, O: Sink>(
 }
 
 /// Reads the words, and runs where they are a request.
-fn run<C: Source, B: Source, O: Sink>(
+fn run<C: Source, B: Source, O: Sink, D: Disk, F: Disk, T: Timer>(
     alloc: Global,
     words: &[String],
     circuit: &mut C,
     bits: &mut B,
     out: &mut O,
+    disk: &mut D,
+    old: &mut F,
+    timer: &mut T,
 ) -> Result<(), Stop>
     ensures later_circuit { C.faults circuit.old ≤ C.faults circuit.new }
     ensures later_bits { B.faults bits.old ≤ B.faults bits.new }
     ensures later_out { O.faults out.old ≤ O.faults out.new }
     ensures unread { result ≡ Err Stop.Usage → (circuit.new ≡ circuit.old) × (bits.new ≡ bits.old) }
-    ensures generated { IfSome (options_of (map string_bytes words.now)) (λ o. (size : Size) → o.generated ≡ Some size → (circuit.new ≡ circuit.old) × (bits.new ≡ bits.old)) }
-    ensures cause { IfErr result (MayStop (options_of (map string_bytes words.now)) (seen C.left C.faults circuit.old circuit.new) (seen B.left B.faults bits.old bits.new) (seen O.held O.faults out.old out.new)) }
+    ensures generated { IfSome (request words.now) (λ o. (size : Size) → o.generated ≡ Some size → (circuit.new ≡ circuit.old) × (bits.new ≡ bits.old)) }
+    ensures cause { IfErr result (MayStop (request words.now) (seen C.left C.faults circuit.old circuit.new) (seen B.left B.faults bits.old bits.new) (seen O.held O.faults out.old out.new) (D.face disk.old) (D.face disk.new) (F.face old.old) (F.face old.new)) }
     ensures untouched { IfErr result (λ stop. (status_of stop ≡ 6 → ⊥) → out.new ≡ out.old) }
-    ensures printed { OnOk result (IsSomeAnd (options_of (map string_bytes words.now)) (λ o.
-        Prints o (seen C.left C.faults circuit.old circuit.new) (seen B.left B.faults bits.old bits.new) (seen O.held O.faults out.old out.new) (λ text. text))) }
+    ensures printed { OnOk result (IsSomeAnd (request words.now) (λ o.
+        Prints o (seen C.left C.faults circuit.old circuit.new) (seen B.left B.faults bits.old bits.new) (seen O.held O.faults out.old out.new) (D.face disk.new) (λ text. text))) }
+    ensures ended { OnOk result (IfSome (request words.now) (λ o.
+        Ended o (seen C.left C.faults circuit.old circuit.new) (seen B.left B.faults bits.old bits.new) (seen O.held O.faults out.old out.new) (D.face disk.old) (D.face disk.new) (F.face old.old) (T.granted_count timer.old) (T.granted_count timer.new) 0)) }
+    ensures ended_by { IfErr result (λ stop. IfSome (request words.now) (λ o.
+        Ended o (seen C.left C.faults circuit.old circuit.new) (seen B.left B.faults bits.old bits.new) (seen O.held O.faults out.old out.new) (D.face disk.old) (D.face disk.new) (F.face old.old) (T.granted_count timer.old) (T.granted_count timer.new) (status_of stop))) }
+    ensures moves { ((disk.new ≡ disk.old) × (old.new ≡ old.old)) ⊎ IsSomeAnd (request words.now) (λ o.
+        Moves o (seen C.left C.faults circuit.old circuit.new) (seen B.left B.faults bits.old bits.new) (D.face disk.old) (D.face disk.new) (F.face old.old) (F.face old.new)) }
+    ensures alone { IfErr result (λ stop. EndsEarly (status_of stop) → (disk.new ≡ disk.old) × (old.new ≡ old.old)) }
+    ensures old_unasked { (o : OptionsValue) → request words.now ≡ Some o
+        → (o.from ≡ None) ⊎ ((o.fresh ≡ false) × IsSomeAnd (D.face disk.old).content (λ f. f ≢ [])) → old.new ≡ old.old }
+    ensures loans { D.loans disk.new ≡ D.loans disk.old }
+    ensures old_loans { F.loans old.new ≡ F.loans old.old }
 {
     match read_words(alloc, words) {
-        Ok(options) => run_with(alloc, &options, circuit, bits, out),
+        Ok(options) => run_with(alloc, &options, circuit, bits, out, disk, old, timer),
         Err(WordsFault::Usage) => Err(Stop::Usage),
         Err(WordsFault::Memory) => Err(Stop::Memory),
     }
 }
 
-/// Takes a circuit and bitstrings as the words ask, and writes the amplitude of each: uncut, or cut with all ranges in order.
-///
-/// A circuit that is generated asks nothing of the sources.
-pub fn qsimh_alone<C: Source, B: Source, O: Sink, E: Sink>(
+/// Runs, tells why it stopped, and answers the status.
+fn answered<C: Source, B: Source, O: Sink, E: Sink, D: Disk, F: Disk, T: Timer>(
     alloc: Global,
     words: &[String],
     circuit: &mut C,
     bits: &mut B,
     out: &mut O,
     err: &mut E,
+    disk: &mut D,
+    old: &mut F,
+    timer: &mut T,
 ) -> u8
-    // With status 0 the input was taken whole, and the sink got exactly the text that the options ask for.
-    ensures exact { result ≡ 0 → IsSomeAnd (options_of (map string_bytes words.now)) (λ o.
-        Prints o (seen C.left C.faults circuit.old circuit.new) (seen B.left B.faults bits.old bits.new) (seen O.held O.faults out.old out.new) (λ text. text)) }
+    ensures printed { result ≡ 0 → IsSomeAnd (request words.now) (λ o.
+        Prints o (seen C.left C.faults circuit.old circuit.new) (seen B.left B.faults bits.old bits.new) (seen O.held O.faults out.old out.new) (D.face disk.new) (λ text. text)) }
     ensures quiet { result ≡ 0 → err.new ≡ err.old }
-
-    // Every other status has its cause, and its line went to the error sink.
     ensures stopped { result ≢ 0 → Stops result
-        (MayStop (options_of (map string_bytes words.now)) (seen C.left C.faults circuit.old circuit.new) (seen B.left B.faults bits.old bits.new) (seen O.held O.faults out.old out.new))
+        (MayStop (request words.now) (seen C.left C.faults circuit.old circuit.new) (seen B.left B.faults bits.old bits.new) (seen O.held O.faults out.old out.new) (D.face disk.old) (D.face disk.new) (F.face old.old) (F.face old.new))
         (Says (seen E.held E.faults err.old err.new)) }
-
-    // Only a write fault leaves anything in the sink.
+    ensures ended { IfSome (request words.now) (λ o.
+        Ended o (seen C.left C.faults circuit.old circuit.new) (seen B.left B.faults bits.old bits.new) (seen O.held O.faults out.old out.new) (D.face disk.old) (D.face disk.new) (F.face old.old) (T.granted_count timer.old) (T.granted_count timer.new) result) }
+    ensures moves { ((disk.new ≡ disk.old) × (old.new ≡ old.old)) ⊎ IsSomeAnd (request words.now) (λ o.
+        Moves o (seen C.left C.faults circuit.old circuit.new) (seen B.left B.faults bits.old bits.new) (D.face disk.old) (D.face disk.new) (F.face old.old) (F.face old.new)) }
     ensures untouched { result ≢ 0 → result ≢ 6 → out.new ≡ out.old }
-
-    // Words that are no request give Usage, or want of memory, and nothing else does.
-    ensures usage { options_of (map string_bytes words.now) ≡ None → (result ≡ 1) ⊎ (result ≡ 7) }
-    ensures usage_only { result ≡ 1 → options_of (map string_bytes words.now) ≡ None }
-
-    // A request that is refused gives 2, or want of memory, or a read fault; so does one whose words alone are refused,
-    // as by a part 1 that is no list of numbers, over sources that tell nothing too.
-    ensures refused { (o : OptionsValue) (r : RefusalValue) → options_of (map string_bytes words.now) ≡ Some o → Refuses (λ known P. IsSomeAnd known P) o r (C.left circuit.old) (B.left bits.old)
-        → (result ≡ 2) ⊎ ((result ≡ 7) ⊎ ((result ≡ 4) × Reading o (seen C.left C.faults circuit.old circuit.new) (seen B.left B.faults bits.old bits.new) r)) }
-
-    ensures refused_by_words { (o : OptionsValue) → options_of (map string_bytes words.now) ≡ Some o → RefusesAll o
-        → (result ≡ 2) ⊎ ((result ≡ 7) ⊎ ((result ≡ 4) × SourceRises o.generated (seen C.left C.faults circuit.old circuit.new) (seen B.left B.faults bits.old bits.new))) }
-
-    // Without a request, or with a generated circuit, nothing is read; no count falls.
+    ensures alone { EndsEarly result → (disk.new ≡ disk.old) × (old.new ≡ old.old) }
+    ensures old_unasked { (o : OptionsValue) → request words.now ≡ Some o
+        → (o.from ≡ None) ⊎ ((o.fresh ≡ false) × IsSomeAnd (D.face disk.old).content (λ f. f ≢ [])) → old.new ≡ old.old }
     ensures unread { result ≡ 1 → (circuit.new ≡ circuit.old) × (bits.new ≡ bits.old) }
-    ensures generated { IfSome (options_of (map string_bytes words.now)) (λ o. (size : Size) → o.generated ≡ Some size → (circuit.new ≡ circuit.old) × (bits.new ≡ bits.old)) }
+    ensures generated { IfSome (request words.now) (λ o. (size : Size) → o.generated ≡ Some size → (circuit.new ≡ circuit.old) × (bits.new ≡ bits.old)) }
     ensures counts { (C.faults circuit.old ≤ C.faults circuit.new) × (B.faults bits.old ≤ B.faults bits.new)
         × (O.faults out.old ≤ O.faults out.new) × (E.faults err.old ≤ E.faults err.new) }
-
-    // Where no fault came, the request is answered as it is.
-    ensures complete { (FaultCame (options_of (map string_bytes words.now)) (seen C.left C.faults circuit.old circuit.new) (seen B.left B.faults bits.old bits.new) (seen O.held O.faults out.old out.new) → ⊥)
-        → Answers (options_of (map string_bytes words.now)) (C.left circuit.old) (B.left bits.old) result }
+    ensures loans { (D.loans disk.new ≡ D.loans disk.old) × (F.loans old.new ≡ F.loans old.old) }
 {
-    match run(alloc, words, circuit, bits, out) {
+    match run(alloc, words, circuit, bits, out, disk, old, timer) {
         Ok(()) => 0,
         Err(stop) => {
             tell(err, stop);
             stop.status()
         }
     }
+}
+
+/// Takes a circuit and bitstrings as the words ask, and writes the amplitude of each: uncut, or cut with all ranges in order, and then over the journal on
+/// `disk` where the words ask for one.
+///
+/// A circuit that is generated asks nothing of the sources. `old` is the journal of the first format that an empty journal takes over with `--from`; it is
+/// only read. Each range of the run that has no slot is granted by the timer, which has no other use here.
+pub fn qsimh_alone<C: Source, B: Source, O: Sink, E: Sink, D: Disk, F: Disk, T: Timer>(
+    alloc: Global,
+    words: &[String],
+    circuit: &mut C,
+    bits: &mut B,
+    out: &mut O,
+    err: &mut E,
+    disk: &mut D,
+    old: &mut F,
+    timer: &mut T,
+) -> u8
+    // Journal: where each image at entry was made by runs of the job, so is each image at each moment of the call. With --new each is one at entry, or made so,
+    // whatever stood there. An empty journal goes only over images that are not begun to ones that keep every slot that is taken over.
+    ensures journal { (o : OptionsValue) (j : JobValue) → Asks (request words.now) (C.left circuit.old) (B.left bits.old) o j
+        → IsMade (keeping o) j (D.face disk.old) (F.face old.old) → EachImageSince (D.face disk.old).clock (D.face disk.new) (Made j) }
+    ensures renewed { (o : OptionsValue) (j : JobValue) → Asks (request words.now) (C.left circuit.old) (B.left bits.old) o j → o.fresh ≡ true
+        → OldIsMade (keeping o) j (D.face disk.old) (F.face old.old) → EachImageSince (D.face disk.old).clock (D.face disk.new) (IsOldOrMade j (D.face disk.old)) }
+    ensures begun { (o : OptionsValue) (j : JobValue) → Asks (request words.now) (C.left circuit.old) (B.left bits.old) o j
+        → IsSomeAnd (D.face disk.old).content (λ f. counted (keeping o) f ≡ []) → IfSome (taken_over (keeping o) j (F.face old.old).content)
+        (λ before. EachImageSince (D.face disk.old).clock (D.face disk.new) (IsOldOrGoesOn j before (D.face disk.old))) }
+
+    // A slot that is stable at a moment of the call stays stable; with --new from a moment at which the empty file is the only image.
+    ensures stable { (o : OptionsValue) (j : JobValue) → request words.now ≡ Some o → o.fresh ≡ false → IsJob j
+        → StaysStable j (D.face disk.old).clock (D.face disk.new) }
+    ensures stable_new { (o : OptionsValue) (j : JobValue) (t : ℕ) → Asks (request words.now) (C.left circuit.old) (B.left bits.old) o j
+        → (D.face disk.old).clock ≤ t → IsEmptyAt t (D.face disk.new) → StaysStable j t (D.face disk.new) }
+    ensures old_kept { IsReadOnly (F.face old.old) (F.face old.new) }
+
+    // Safe at the end: with status 0, 3 or 6 each slot of the run is stable.
+    ensures safe { (o : OptionsValue) (j : JobValue) (r : ℕ) → Asks (request words.now) (C.left circuit.old) (B.left bits.old) o j → IsSome o.journal
+        → RunIsWhole result → r < ranges j → IsStableAt (Holds j r) (D.face disk.new).clock (D.face disk.new) }
+
+    // The record: the slots at entry stand unchanged, and each other slot holds its range's value. With status 0, 3 or 6 none is missing.
+    ensures record_done { (o : OptionsValue) (j : JobValue) → Asks (request words.now) (C.left circuit.old) (B.left bits.old) o j → RunIsWhole result
+        → IfTold (keeping o) j (D.face disk.old) (F.face old.old) (D.face disk.new) (λ before after. Extends j before after × IsFull j after) }
+    ensures record_grows { (o : OptionsValue) (j : JobValue) → Asks (request words.now) (C.left circuit.old) (B.left bits.old) o j → o.fresh ≡ false
+        → IfTold (keeping o) j (D.face disk.old) (F.face old.old) (D.face disk.new) (Grows (keeping o) j (D.face disk.old)) }
+
+    // The print follows the record: with status 0 the input was taken whole, and the sink got exactly the text of the slots at exit, or, uncut, of the
+    // amplitudes. Nothing went to the error sink.
+    ensures printed { result ≡ 0 → IsSomeAnd (request words.now) (λ o.
+        Prints o (seen C.left C.faults circuit.old circuit.new) (seen B.left B.faults bits.old bits.new) (seen O.held O.faults out.old out.new) (D.face disk.new) (λ text. text)) }
+    ensures quiet { result ≡ 0 → err.new ≡ err.old }
+
+    // Exact: where the slots at entry are true, the sink got the amplitudes that the job asks for, or a front of their text, or a path is over.
+    ensures exact { (o : OptionsValue) (j : JobValue) → Asks (request words.now) (C.left circuit.old) (B.left bits.old) o j
+        → BeginsTrue (keeping o) j (D.face disk.old) (F.face old.old) → PrintsAsked o j (seen O.held O.faults out.old out.new) result }
+
+    // All of this of the job that the call came to, also where the sources tell nothing.
+    ensures whole { RunIsWhole result → IfSome (request words.now) (λ o. IsSome o.part →
+        EndsWhole o (seen C.left C.faults circuit.old circuit.new) (seen B.left B.faults bits.old bits.new) (seen O.held O.faults out.old out.new) (D.face disk.old) (D.face disk.new) (F.face old.old) (T.granted_count timer.old) (T.granted_count timer.new) result) }
+
+    // Causes: every other status has its own, and its line went to the error sink.
+    ensures stopped { result ≢ 0 → Stops result
+        (MayStop (request words.now) (seen C.left C.faults circuit.old circuit.new) (seen B.left B.faults bits.old bits.new) (seen O.held O.faults out.old out.new) (D.face disk.old) (D.face disk.new) (F.face old.old) (F.face old.new))
+        (Says (seen E.held E.faults err.old err.new)) }
+
+    // Untouched: only a write fault leaves anything in the sink. No call is made on a disk before a job is accepted that keeps a journal.
+    ensures untouched { result ≢ 0 → result ≢ 6 → out.new ≡ out.old }
+    ensures disks_alone { EndsEarly result → (disk.new ≡ disk.old) × (old.new ≡ old.old) }
+    ensures reached { ((disk.new ≡ disk.old) × (old.new ≡ old.old)) ⊎ IsSomeAnd (request words.now) (λ o.
+        IsSome o.journal × ((j : JobValue) × Takes o (seen C.left C.faults circuit.old circuit.new) (seen B.left B.faults bits.old bits.new) j)) }
+    ensures old_unasked { (o : OptionsValue) → request words.now ≡ Some o
+        → (o.from ≡ None) ⊎ ((o.fresh ≡ false) × IsSomeAnd (D.face disk.old).content (λ f. f ≢ [])) → old.new ≡ old.old }
+
+    // A journal that is refused, or that was finished, is not written, whatever the status.
+    ensures unwritten { (o : OptionsValue) → request words.now ≡ Some o → o.fresh ≡ false → result ≡ 8 → IsUnwritten (D.face disk.old) (D.face disk.new) }
+    ensures unwritten_refused { (o : OptionsValue) (j : JobValue) (r : JournalRefusalValue) → Asks (request words.now) (C.left circuit.old) (B.left bits.old) o j
+        → o.fresh ≡ false → JournalRefuses (λ known P. IsSomeAnd known P) (keeping o) j (D.face disk.old) (F.face old.old) r → IsUnwritten (D.face disk.old) (D.face disk.new) }
+    ensures unwritten_finished { (o : OptionsValue) (j : JobValue) → Asks (request words.now) (C.left circuit.old) (B.left bits.old) o j
+        → o.fresh ≡ false → IsFinished j (D.face disk.old) → IsUnwritten (D.face disk.old) (D.face disk.new) }
+
+    // Words that are no request give Usage, or want of memory, and nothing else does.
+    ensures usage { request words.now ≡ None → (result ≡ 1) ⊎ (result ≡ 7) }
+    ensures usage_only { result ≡ 1 → request words.now ≡ None }
+
+    // A request that is refused gives 2, or want of memory, or a read fault; so does one whose words alone are refused, as by a part 1 that is no list of
+    // numbers, over sources that tell nothing too. One whose journals are refused gives 8, or want of memory, or the fault that came first.
+    ensures refused { (o : OptionsValue) (r : RefusalValue) → request words.now ≡ Some o → Refuses (λ known P. IsSomeAnd known P) o r (C.left circuit.old) (B.left bits.old)
+        → (result ≡ 2) ⊎ ((result ≡ 7) ⊎ ((result ≡ 4) × Reading o (seen C.left C.faults circuit.old circuit.new) (seen B.left B.faults bits.old bits.new) r)) }
+    ensures refused_by_words { (o : OptionsValue) → request words.now ≡ Some o → RefusesAll o
+        → (result ≡ 2) ⊎ ((result ≡ 7) ⊎ ((result ≡ 4) × SourceRises o.generated (seen C.left C.faults circuit.old circuit.new) (seen B.left B.faults bits.old bits.new))) }
+    ensures journal_refused { (o : OptionsValue) (j : JobValue) (r : JournalRefusalValue) → Asks (request words.now) (C.left circuit.old) (B.left bits.old) o j
+        → JournalRefuses (λ known P. IsSomeAnd known P) (keeping o) j (D.face disk.old) (F.face old.old) r
+        → (result ≡ 8) ⊎ ((result ≡ 7) ⊎ FaultFirst o (seen C.left C.faults circuit.old circuit.new) (seen B.left B.faults bits.old bits.new) (D.face disk.old) (D.face disk.new) (F.face old.old) (F.face old.new) result) }
+
+    // Without a request, or with a generated circuit, nothing is read. No count falls, and no moment is lost.
+    ensures unread { result ≡ 1 → (circuit.new ≡ circuit.old) × (bits.new ≡ bits.old) }
+    ensures generated { IfSome (request words.now) (λ o. (size : Size) → o.generated ≡ Some size → (circuit.new ≡ circuit.old) × (bits.new ≡ bits.old)) }
+    ensures counts { (C.faults circuit.old ≤ C.faults circuit.new) × (B.faults bits.old ≤ B.faults bits.new)
+        × (O.faults out.old ≤ O.faults out.new) × (E.faults err.old ≤ E.faults err.new) }
+    ensures moments { Runs (D.face disk.old) (D.face disk.new) × Runs (F.face old.old) (F.face old.new) }
+    ensures loans { (D.loans disk.new ≡ D.loans disk.old) × (F.loans old.new ≡ F.loans old.old) }
+
+    // Complete: where no fault came, the request is answered as it is.
+    ensures complete { ¬ FaultCame (request words.now) (seen C.left C.faults circuit.old circuit.new) (seen B.left B.faults bits.old bits.new) (seen O.held O.faults out.old out.new) (D.face disk.old) (D.face disk.new) (F.face old.old) (F.face old.new)
+        → Answers (request words.now) (C.left circuit.old) (B.left bits.old) (D.face disk.old) (F.face old.old) result }
+
+    // Each range without a slot at entry was granted.
+    ensures granted { (o : OptionsValue) (j : JobValue) → Asks (request words.now) (C.left circuit.old) (B.left bits.old) o j → RunIsWhole result
+        → IfSome (slots_before (keeping o) j (D.face disk.old) (F.face old.old)) (λ before. RoseBy (count_bare j before) (T.granted_count timer.old) (T.granted_count timer.new)) }
+{
+    answered(alloc, words, circuit, bits, out, err, disk, old, timer)
 }

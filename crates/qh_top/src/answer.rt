@@ -1,33 +1,29 @@
 //! The text that a request asks for.
-ghost use Rattle.std.specs.Prelude.{◌≡◌, ◌≤◌, ◌<◌, ◌++◌, Some, decimal, IfOk, IfErr, OnOk, length, map, All};
-ghost use Rattle.std.specs.Arc.{arc_value};
+ghost use Rattle.std.specs.Prelude.{◌≡◌, ◌≢◌, ◌≤◌, ◌<◌, ◌++◌, ◌⊎◌, [], false, Some, None, decimal, IfOk, IfErr, OnOk, IsSomeAnd, length, map, All};
 ghost use Rattle.qh_ring.specs.Numbers.{IsWithin};
 ghost use Rattle.qh_ring.specs.States.{at_index};
 ghost use Rattle.qh_limits.specs.Limits.{max_uncut_qubits, coefficient_bits};
 ghost use Rattle.qh_gates.specs.Circuits.{total_weight};
 ghost use Rattle.qh_gates.specs.Evolution.{uncut, NeverOver};
 ghost use Rattle.qh_plan.specs.Plans.{AreBits};
-ghost use Rattle.qh_meaning.specs.Laws.{NoneOver};
-ghost use Rattle.qh_solve.specs.Solved.{IsAskedText};
-ghost use Rattle.qh_top.specs.Answer.{IsPlannedJob, gen_line, head_text};
-ghost use Rattle.qh_top.specs.Indexed.{IsPathsText, IsUncutText, IsCutText, IsIndexed};
-ghost use Rattle.qh_top.specs.Refusals.{PlanRefusesBy};
-ghost use Rattle.qh_top.specs.Parts.{UncutMayStop, PlanMayStop, JobMayStop, CutMayStop, AnswerMayStop};
+ghost use Rattle.qh_top.specs.Answer.{gen_line, head_text};
+ghost use Rattle.qh_top.specs.Indexed.{IsUncutText, IsIndexedBy};
+ghost use Rattle.qh_top.specs.Request.{EndsEarly};
+ghost use Rattle.qh_top.specs.Stops.{status_of};
+ghost use Rattle.qh_top.specs.Parts.{UncutMayStop, AnswerMayStop, AnswerMoves};
 
+use crate::cut::cut_answer;
 use crate::stop::Stop;
+use qh_disk::Disk;
 use qh_gates::Circuit;
-use qh_plan::{Job, check_uncut, plan, read_part};
+use qh_lease::Timer;
+use qh_plan::check_uncut;
 use qh_print::{Lines, lines_of};
 use qh_ring::Omega;
-use qh_solve::{Solved, solve};
-use qh_steps::Steps;
 use qh_text::push_word;
 use qh_uncut::{UncutFault, evolve};
 use qh_words::{GenSize, Options};
 use std::alloc::{AllocError, Global};
-use std::marker::Brand;
-use std::sync::Arc;
-use std::sync::ledger::{Blank, Ledger};
 
 /// The numbers at these indices of a list.
 fn values_at(alloc: Global, numbers: &[Omega], indices: &[u64]) -> Result<Vec<Omega>, AllocError>
@@ -88,7 +84,7 @@ fn gen_line(
 }
 
 /// The whole text: the first line where the circuit is generated, and the lines of the amplitudes.
-fn with_head(
+pub(crate) fn with_head(
     alloc: Global,
     generated: Option<GenSize>,
     circuit: &Circuit,
@@ -133,101 +129,36 @@ fn uncut_answer(
     with_head(alloc, generated, circuit, 0, 0, &lines)
 }
 
-/// The job that the options plan over a part 1.
-fn planned(
+/// The text that the options ask for of a circuit at these indices. Only a circuit that is cut calls on a disk.
+pub(crate) fn answer<D: Disk, F: Disk, T: Timer>(
     alloc: Global,
     options: &Options,
-    part: &str,
     circuit: Circuit,
     indices: Vec<u64>,
-) -> Result<Job, Stop>
-    requires { AreBits circuit.qubits indices.items }
-    ensures job { IfOk result (IsPlannedJob options.now part.now circuit indices.items) }
-    ensures cause { IfErr result (PlanMayStop (PlanRefusesBy (Some part.now) options.now circuit indices.items)) }
-{
-    let items = match read_part(alloc, part) {
-        Ok(items) => items,
-        Err(fault) => return Err(Stop::of_plan(fault)),
-    };
-    match plan(
-        alloc, circuit, &items, options.p, options.r, options.w, indices,
-    ) {
-        Ok(job) => Ok(job),
-        Err(fault) => Err(Stop::of_plan(fault)),
-    }
-}
-
-/// The lines of a job: the sums over its paths.
-fn job_lines<L: Ledger>(alloc: Global, blank: Blank, job: &Arc<Job>) -> Result<Lines, Stop>
-    requires name { blank.name ≡ L.name }
-    requires parts { blank.parts ≡ L.parts }
-    requires some { 0 < blank.parts }
-    ensures none { OnOk result (NoneOver (arc_value job.now)) }
-    ensures lines { IfOk result (λ lines. IsAskedText (arc_value job.now) lines) }
-    ensures cause { IfErr result (JobMayStop (arc_value job.now)) }
-{
-    let mut steps = Steps::<L>::new(blank);
-    match solve(alloc, job, &mut steps) {
-        Ok(Solved::Lines(lines)) => Ok(lines),
-        Ok(Solved::Overflow { path }) => Err(Stop::OverflowPath(path)),
-        Err(_) => Err(Stop::Memory),
-    }
-}
-
-/// The text of a job.
-fn job_answer(alloc: Global, generated: Option<GenSize>, job: Job) -> Result<Vec<u8>, Stop>
-    ensures none { OnOk result (NoneOver job) }
-    ensures text { IfOk result (λ text. IsPathsText generated job text.items) }
-    ensures cause { IfErr result (JobMayStop job) }
-{
-    let Ok(job) = Arc::new(alloc, job) else {
-        return Err(Stop::Memory);
-    };
-    let lines = match job_lines::<Brand>(alloc, Blank::new(1), &job) {
-        Ok(lines) => lines,
-        Err(stop) => return Err(stop),
-    };
-    with_head(
-        alloc,
-        generated,
-        job.circuit(),
-        job.crossing(),
-        job.ranges(),
-        &lines,
-    )
-}
-
-/// The text of a circuit that is cut.
-fn cut_answer(
-    alloc: Global,
-    options: &Options,
-    part: &str,
-    circuit: Circuit,
-    indices: Vec<u64>,
+    disk: &mut D,
+    old: &mut F,
+    timer: &mut T,
 ) -> Result<Vec<u8>, Stop>
     requires { AreBits circuit.qubits indices.items }
-    ensures answer { IfOk result (λ text. IsCutText options.now part.now circuit indices.items text.items) }
-    ensures cause { IfErr result (CutMayStop options.now part.now circuit indices.items) }
-{
-    match planned(alloc, options, part, circuit, indices) {
-        Ok(job) => job_answer(alloc, options.generated, job),
-        Err(stop) => Err(stop),
-    }
-}
-
-/// The text that the options ask for of a circuit at these indices.
-pub(crate) fn answer(
-    alloc: Global,
-    options: &Options,
-    circuit: Circuit,
-    indices: Vec<u64>,
-) -> Result<Vec<u8>, Stop>
-    requires { AreBits circuit.qubits indices.items }
-    ensures answer { IfOk result (λ text. IsIndexed options.now circuit indices.items text.items) }
-    ensures cause { IfErr result (AnswerMayStop options.now.part options.now circuit indices.items) }
+    ensures answer { IfOk result (λ text. IsIndexedBy options.now.part options.now (D.face disk.old) (D.face disk.new) (F.face old.old) (T.granted_count timer.old) (T.granted_count timer.new) circuit indices.items text.items) }
+    ensures cause { IfErr result (AnswerMayStop options.now.part options.now circuit indices.items (D.face disk.old) (D.face disk.new) (F.face old.old) (F.face old.new) (T.granted_count timer.old) (T.granted_count timer.new)) }
+    ensures moves { ((disk.new ≡ disk.old) × (old.new ≡ old.old)) ⊎ AnswerMoves options.now.part options.now circuit indices.items (D.face disk.old) (D.face disk.new) (F.face old.old) (F.face old.new) }
+    ensures alone { IfErr result (λ stop. EndsEarly (status_of stop) → (disk.new ≡ disk.old) × (old.new ≡ old.old)) }
+    ensures old_unasked { (options.now.from ≡ None) ⊎ ((options.now.fresh ≡ false) × IsSomeAnd (D.face disk.old).content (λ f. f ≢ [])) → old.new ≡ old.old }
+    ensures loans { D.loans disk.new ≡ D.loans disk.old }
+    ensures old_loans { F.loans old.new ≡ F.loans old.old }
 {
     match &options.part {
         None => uncut_answer(alloc, options.generated, &circuit, &indices),
-        Some(part) => cut_answer(alloc, options, part.as_str(), circuit, indices),
+        Some(part) => cut_answer(
+            alloc,
+            options,
+            part.as_str(),
+            circuit,
+            indices,
+            disk,
+            old,
+            timer,
+        ),
     }
 }

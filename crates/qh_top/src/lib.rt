@@ -7,6 +7,7 @@
 
 mod alone;
 mod answer;
+mod cut;
 mod input;
 mod laws;
 mod names;

@@ -7,13 +7,15 @@ ghost use Rattle.qh_top.specs.Names.{AreNames};
 use qh_words::{Text, WordsFault, read_words};
 use std::alloc::Global;
 
-/// The files that the words name: those of the circuit and the bitstrings unless these are generated, and that of the
-/// output unless it is standard output.
+/// The files that the words name: those of the circuit and the bitstrings unless these are generated, that of the output
+/// unless it is standard output, and those of the journal and of the old journal where the words ask for them.
 #[derive(Drop)]
 pub struct Names {
     pub circuit: Option<Text>,
     pub bits: Option<Text>,
     pub out: Option<Text>,
+    pub journal: Option<Text>,
+    pub old: Option<Text>,
 }
 
 /// The files that the words name. Usage comes only where the words are no request, and Ok only where they are one.
@@ -26,5 +28,7 @@ pub fn file_names(alloc: Global, words: &[String]) -> Result<Names, WordsFault>
         circuit: options.circuit,
         bits: options.bits,
         out: options.out,
+        journal: options.journal,
+        old: options.from,
     })
 }

@@ -3,14 +3,17 @@ ghost use Rattle.std.specs.Prelude.{◌≡◌, ◌++◌, ◌∷◌, [], true, fa
 ghost use Rattle.std.specs.Io.KnownBytes.{Appends};
 ghost use Rattle.qh_counts.specs.Counts.{Rose};
 ghost use Rattle.qh_top.specs.Seen.{seen};
-ghost use Rattle.qh_top.specs.Stops.{message_of, refusal_line, plan_name, plan_number, number_text, circuit_why, bits_why, fault_line, Says};
+ghost use Rattle.qh_top.specs.Stops.{message_of, refusal_line, plan_name, plan_number, number_text, circuit_why, bits_why, fault_line, attach_name, attach_number, attach_text, journal_line, Says};
+ghost use Rattle.qh_migrate.specs.Faults.{attach_of};
 
-use crate::stop::{Input, Refusal, Stop};
+use crate::stop::{Input, JournalRefusal, Refusal, Stop};
 use itoa::Buffer;
 use qh_bits::BitsWhy;
 use qh_circuit::Why;
 use qh_io::{Sink, write_all_of};
+use qh_migrate::OldRefusal;
 use qh_plan::PlanFault;
+use qh_slots::AttachFault;
 
 /// The one line of usage.
 const USAGE: &str =
@@ -169,6 +172,81 @@ fn fault_text(input: Input) -> &'static str
     }
 }
 
+/// The name of a refusal of a journal.
+fn attach_name_text(fault: AttachFault) -> &'static str
+    ensures { result.now ≡ attach_name fault }
+{
+    match fault {
+        AttachFault::DiskFault => "DiskFault",
+        AttachFault::Empty => "Empty",
+        AttachFault::Unbegun => "Unbegun",
+        AttachFault::OldJournal => "OldJournal",
+        AttachFault::NotAJournal => "NotAJournal",
+        AttachFault::OtherJob { .. } => "OtherJob at ",
+        AttachFault::BadLength { .. } => "BadLength ",
+        AttachFault::BadSlot { .. } => "BadSlot ",
+        AttachFault::Memory => "Memory",
+    }
+}
+
+/// The number of a refusal of a journal.
+fn number_of_attach(fault: AttachFault) -> Option<u64>
+    ensures { attach_number fault ≡ number_text result }
+{
+    match fault {
+        AttachFault::OtherJob { place } => Some(place),
+        AttachFault::BadLength { found } => Some(found),
+        AttachFault::BadSlot { range } => Some(range as u64),
+        _ => None,
+    }
+}
+
+/// The refusal of a journal that a refusal of an old one is.
+fn attach_of(fault: OldRefusal) -> AttachFault
+    ensures { result ≡ attach_of fault }
+{
+    match fault {
+        OldRefusal::Empty => AttachFault::Empty,
+        OldRefusal::Unbegun => AttachFault::Unbegun,
+        OldRefusal::NotAJournal => AttachFault::NotAJournal,
+        OldRefusal::OtherJob { place } => AttachFault::OtherJob { place },
+        OldRefusal::BadLength { found } => AttachFault::BadLength { found },
+        OldRefusal::BadSlot { range } => AttachFault::BadSlot { range },
+    }
+}
+
+/// Says what refuses a journal.
+fn tell_cause<E: Sink>(err: &mut E, fault: AttachFault)
+    ensures { Says (seen E.held E.faults err.old err.new) (attach_text fault) }
+{
+    let name = attach_name_text(fault);
+    let Some(number) = number_of_attach(fault) else {
+        say_three(err, name.as_bytes(), "".as_bytes(), "\n".as_bytes());
+        return;
+    };
+    say_number(err, name, number, "\n");
+}
+
+/// Says whose journal is refused, and what refuses it.
+fn tell_attach<E: Sink>(err: &mut E, whose: &str, fault: AttachFault)
+    ensures { Says (seen E.held E.faults err.old err.new) (whose.now ++ attach_text fault) }
+{
+    if !say(err, whose.as_bytes()) {
+        return;
+    }
+    tell_cause(err, fault);
+}
+
+/// Says why a journal is refused.
+fn tell_journal<E: Sink>(err: &mut E, refusal: JournalRefusal)
+    ensures { Says (seen E.held E.faults err.old err.new) (journal_line refusal) }
+{
+    match refusal {
+        JournalRefusal::OfJournal(fault) => tell_attach(err, "journal: ", fault),
+        JournalRefusal::OfOld(fault) => tell_attach(err, "old journal: ", attach_of(fault)),
+    }
+}
+
 /// Says why the call stops. It takes no memory.
 pub(crate) fn tell<E: Sink>(err: &mut E, stop: Stop)
     ensures { Says (seen E.held E.faults err.old err.new) (message_of stop) }
@@ -189,11 +267,17 @@ pub(crate) fn tell<E: Sink>(err: &mut E, stop: Stop)
         Stop::ReadFault(input) => {
             say(err, fault_text(input).as_bytes());
         }
+        Stop::DiskFault => {
+            say(err, "disk fault\n".as_bytes());
+        }
         Stop::WriteFault(count) => {
             say_number(err, "write fault after ", count as u64, " bytes\n");
         }
         Stop::Memory => {
             say(err, "out of memory\n".as_bytes());
+        }
+        Stop::Journal(refusal) => {
+            tell_journal(err, refusal);
         }
     }
 }

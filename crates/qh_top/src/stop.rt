@@ -3,7 +3,9 @@ ghost use Rattle.std.specs.Prelude.{◌≡◌};
 
 use qh_bits::BitsWhy;
 use qh_circuit::Why;
+use qh_migrate::OldRefusal;
 use qh_plan::PlanFault;
+use qh_slots::AttachFault;
 
 /// Why a text is refused.
 #[derive(Clone, Copy, PartialEq, Eq, Debug)]
@@ -16,6 +18,13 @@ pub enum Refusal {
     BitsLine { line: u64, why: BitsWhy },
     /// Why the plan refuses: the text of part 1, the cut, the split, or an uncut circuit of more than 16 qubits.
     Plan(PlanFault),
+}
+
+/// Why a journal is refused: that of the run, or the old one that is to be taken over.
+#[derive(Clone, Copy, PartialEq, Eq, Debug)]
+pub enum JournalRefusal {
+    OfJournal(AttachFault),
+    OfOld(OldRefusal),
 }
 
 /// One of the two sources.
@@ -35,8 +44,11 @@ pub enum Stop {
     /// Cut, the least path that is over.
     OverflowPath(u64),
     ReadFault(Input),
+    /// A call of the journal's disk failed, or of the old journal's.
+    DiskFault,
     WriteFault(usize),
     Memory,
+    Journal(JournalRefusal),
 }
 
 impl Stop {
@@ -51,8 +63,10 @@ impl Stop {
             Stop::Refused(_) => 2,
             Stop::OverflowGate(_) | Stop::OverflowPath(_) => 3,
             Stop::ReadFault(_) => 4,
+            Stop::DiskFault => 5,
             Stop::WriteFault(_) => 6,
             Stop::Memory => 7,
+            Stop::Journal(_) => 8,
         }
     }
 

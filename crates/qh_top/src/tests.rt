@@ -1,6 +1,10 @@
 //! Worked rows: each has the words, the two texts, the calls that fail, and the status, output and message that follow.
+mod journals;
+
 use crate::qsimh_alone;
+use qh_disk::MemDisk;
 use qh_io::{MemSink, MemSource};
+use qh_lease::ScriptTimer;
 use std::alloc::{AllocError, Global};
 use std::process::Abort;
 use std::test::Fail;
@@ -89,6 +93,23 @@ fn strings(alloc: Global, all: &[&str]) -> Result<Vec<String>, AllocError> {
     Ok(words)
 }
 
+/// Runs without a journal, over two disks each call of which would fail.
+fn run_alone(
+    alloc: Global,
+    words: &[String],
+    circuit: &mut MemSource,
+    bits: &mut MemSource,
+    out: &mut MemSink,
+    err: &mut MemSink,
+) -> Result<u8, AllocError> {
+    let mut disk = MemDisk::new(alloc, b"", 0, &[], Some(0))?;
+    let mut old = MemDisk::new(alloc, b"", 0, &[], Some(0))?;
+    let mut timer = ScriptTimer::new(alloc, &[])?;
+    Ok(qsimh_alone(
+        alloc, words, circuit, bits, out, err, &mut disk, &mut old, &mut timer,
+    ))
+}
+
 fn check(rt: &(impl Abort + AllocGlobal), row: &Row) -> Result<(), Fail> {
     let alloc = rt.alloc();
     let words = strings(alloc, row.words)?;
@@ -96,14 +117,14 @@ fn check(rt: &(impl Abort + AllocGlobal), row: &Row) -> Result<(), Fail> {
     let mut bits = MemSource::new(alloc, row.bits, 2, row.fails[1])?;
     let mut out = MemSink::new(alloc, 1000, 10, row.fails[2])?;
     let mut err = MemSink::new(alloc, 1000, 7, row.fails[3])?;
-    let status = qsimh_alone(
+    let status = run_alone(
         alloc,
         words.as_slice(),
         &mut circuit,
         &mut bits,
         &mut out,
         &mut err,
-    );
+    )?;
     assert_eq!(rt; status, row.status);
     assert_eq!(rt; out.bytes(), row.out);
     assert_eq!(rt; err.bytes(), row.err);
@@ -476,7 +497,7 @@ fn run_texts(
     let mut bits = MemSource::new(alloc, bits.as_bytes(), 4096, &[])?;
     let mut out = MemSink::new(alloc, 1000, 1000, &[])?;
     let mut err = MemSink::new(alloc, 1000, 1000, &[])?;
-    let status = qsimh_alone(alloc, words, &mut circuit, &mut bits, &mut out, &mut err);
+    let status = run_alone(alloc, words, &mut circuit, &mut bits, &mut out, &mut err)?;
     assert_eq!(rt; (status, err.bytes()), (0, b"".as_slice()));
     Ok(Vec::from_slice(alloc, out.bytes())?)
 }
@@ -539,14 +560,14 @@ fn over_words(
     let mut bits = MemSource::new(alloc, bits, 4096, &[])?;
     let mut out = MemSink::new(alloc, 100, 100, &[])?;
     let mut err = MemSink::new(alloc, 100, 100, &[])?;
-    let answer = qsimh_alone(
+    let answer = run_alone(
         alloc,
         words.as_slice(),
         &mut circuit,
         &mut bits,
         &mut out,
         &mut err,
-    );
+    )?;
     assert_eq!(rt; answer, status);
     assert_eq!(rt; out.bytes(), text);
     assert_eq!(rt; err.bytes(), line);

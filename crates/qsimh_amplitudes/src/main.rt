@@ -7,6 +7,7 @@ mod named;
 
 use named::{Adapters, named_files};
 use qh_io::ErrSink;
+use qh_lease::ClockTimer;
 use qh_top::qsimh_alone;
 use std::alloc::AllocError;
 use std::env::Env;
@@ -46,8 +47,11 @@ fn main(rt: HostRuntime) -> ExitCode {
         mut circuit,
         mut bits,
         mut out,
+        mut journal,
+        mut old,
     } = files;
     let mut err = ErrSink::new(&rt);
+    let mut timer = ClockTimer::new(&rt, rt.alloc(), None);
     ExitCode::from(qsimh_alone(
         rt.alloc(),
         &words,
@@ -55,5 +59,8 @@ fn main(rt: HostRuntime) -> ExitCode {
         &mut bits,
         &mut out,
         &mut err,
+        &mut journal,
+        &mut old,
+        &mut timer,
     ))
 }

@@ -16,3 +16,6 @@ returns-in-WriteFault g c = subst (Says _) (sym (ap message_of c.in-WriteFault.i
 
 pub returns-in-Memory : goal.returns-in-Memory
 returns-in-Memory g c = subst (Says _) (c.as_bytes-in-Memory.ensures.value ∙ sym (ap message_of c.in-Memory.is)) c.say-in-Memory.ensures.says
+
+pub returns-in-DiskFault : goal.returns-in-DiskFault
+returns-in-DiskFault g c = subst (Says _) (c.as_bytes-in-DiskFault.ensures.value ∙ sym (ap message_of c.in-DiskFault.is)) c.say-in-DiskFault.ensures.says

@@ -1,0 +1,16 @@
+//! Runs a job over its journal: each range that is not recorded is evaluated and recorded, and the answer is the total of the record.
+//!
+//! It is one thread's work: a range at a time, in one room and from one of two checkpoints that are kept. Each range that is recorded takes two writes and two
+//! syncs of the disk. A run that stops, for a fault, want of memory or a crash, leaves a journal from which the next run goes on. There is no lock: one run at a
+//! time may use a journal.
+#![tactic(auto)]
+
+mod ended;
+mod over;
+mod ranges;
+mod run;
+mod stop;
+mod worker;
+
+pub use ended::{Ran, RunEnd};
+pub use run::{run_kept, run_unkept};
