@@ -10,6 +10,8 @@ mod over;
 mod ranges;
 mod run;
 mod stop;
+#[cfg(test)]
+mod tests;
 mod worker;
 
 pub use ended::{Ran, RunEnd};
