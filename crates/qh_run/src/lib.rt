@@ -10,6 +10,7 @@ mod over;
 mod ranges;
 mod run;
 mod stop;
+mod sweep;
 #[cfg(test)]
 mod tests;
 mod worker;

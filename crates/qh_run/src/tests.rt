@@ -12,7 +12,8 @@ use std::sync::Arc;
 use std::test::Fail;
 
 /// One gate across the cut is a prefix gate, so that each range begins from a checkpoint of its own.
-const TWO: &[u8] = b"job 1\npart 0\nsplit 1 0\nprefix all\nbits 4\n00\n10\n01\n11\ngates 5\n2\n0 h 0\n0 h 1\n1 cz 0 1\n2 h 0\n3 cz 0 1\n";
+const TWO: &[u8] =
+    b"job 1\npart 0\nsplit 1 0\nprefix all\nbits 4\n00\n10\n01\n11\ngates 5\n2\n0 h 0\n0 h 1\n1 cz 0 1\n2 h 0\n3 cz 0 1\n";
 
 /// No file of these tests is longer.
 const ROOM: u64 = 1_000;
