@@ -4,3 +4,4 @@ pub mod CountLemmas
 pub mod CarryLemmas
 pub mod CompleteLemmas
 pub mod KeptLemmas
+pub mod SweepLemmas

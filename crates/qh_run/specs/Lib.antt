@@ -3,3 +3,4 @@ pub mod Ends
 pub mod Workers
 pub mod Carrying
 pub mod Opened
+pub mod Sweeping

@@ -10,6 +10,9 @@ mod over;
 mod ranges;
 mod run;
 mod stop;
+mod sweep;
+#[cfg(test)]
+mod tests;
 mod worker;
 
 pub use ended::{Ran, RunEnd};

@@ -18,8 +18,9 @@ ghost use Rattle.qh_run.specs.Ends.{answer_of, IsBounded};
 ghost use Rattle.qh_run.specs.Carrying.{Carries, count_fresh, Completes, MayStop, MayLeave};
 
 use crate::ended::RunEnd;
-use crate::ranges::{sweep, take_turns};
+use crate::ranges::take_turns;
 use crate::stop::Stop;
+use crate::sweep::sweep;
 use crate::worker::Worker;
 use qh_board::Board;
 use qh_disk::Disk;

@@ -2,9 +2,7 @@
 ghost use Rattle.std.specs.Prelude.{◌≡◌, ◌≢◌, ◌<◌, ◌≤◌, ◌+◌, ℕ, None, IfOk, IfErr, OnOk, set, length};
 ghost use Rattle.qh_counts.specs.Counts.{RoseBy};
 ghost use Rattle.qh_plan.specs.Jobs.{ranges};
-ghost use Rattle.qh_lease.specs.Lease.{lease_at, is_fresh, NonePasses};
 ghost use Rattle.qh_lease.specs.declared.lease.Lease.TheVariants as Leases;
-ghost use Rattle.qh_replay.specs.Replay.{is_open};
 ghost use Rattle.qh_run.specs.Carrying.{Carries, count_fresh, Turned, MayStop};
 
 use crate::stop::Stop;
@@ -12,7 +10,7 @@ use crate::worker::Worker;
 use qh_board::Board;
 use qh_disk::Disk;
 use qh_lease::{Ledgers, Share, Timer};
-use qh_range::{Claim, Delivery, Sweep, Ticket};
+use qh_range::{Claim, Delivery, Ticket};
 use std::sync::ledger::Ledger;
 
 /// Evaluates the range of a ticket and records it. For want of memory the ticket is given back.
@@ -92,34 +90,4 @@ pub(crate) fn take_turns<D: Disk, T: Timer, N: Ledgers, L: Ledger>(
         }
     }
     Ok(())
-}
-
-/// Evaluates and records the ranges that are not recorded, in rising order.
-pub(crate) fn sweep<D: Disk, T: Timer, N: Ledgers, L: Ledger>(
-    board: &mut Board<'_, D, T, N>,
-    worker: &mut Worker<L>,
-    share: &mut Share<N>,
-) -> Result<(), Stop>
-    requires same { worker.old ≡ board.old.job }
-    requires running { board.old.course.fault ≡ None }
-    requires count { length board.old.course.leases ≡ ranges board.old.job }
-    ensures carries { Carries D.face D.loans board.old board.new }
-    ensures worker { worker.new ≡ worker.old }
-    ensures timer { board.new.timer ≡ board.old.timer }
-    ensures running { OnOk result (board.new.course.fault ≡ None) }
-    ensures all { OnOk result (NonePasses is_open 0 board.new.course.leases) }
-    ensures stop { IfErr result (MayStop D.face board.old board.new) }
-{
-    let mut from = 0;
-    loop {
-        match board.sweep_from(from) {
-            Sweep::Granted(ticket) => {
-                prove!(ticket.range() < worker.ranges());
-                from = ticket.range() + 1;
-                work_on(board, worker, ticket, share)?;
-            }
-            Sweep::Done => return Ok(()),
-            Sweep::Halted { .. } => unreachable!(),
-        }
-    }
 }
