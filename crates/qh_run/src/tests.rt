@@ -75,7 +75,7 @@ fn answers_and_goes_on(rt: HostRuntime) -> Result<(), Fail> {
     }
     let foreign = run(&rt, alloc, &job, b"other", false, None)?;
     assert!(rt; matches!(foreign.end, RunEnd::Refused(AttachFault::Unbegun)));
-    assert_eq!(rt; foreign.disk.bytes(), b"other");
+    assert_eq!(rt; foreign.disk.bytes(), b"other".as_slice());
     let fresh = run(&rt, alloc, &job, b"other", true, None)?;
     assert!(rt; are_sums(&fresh.end));
 
