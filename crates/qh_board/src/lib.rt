@@ -15,6 +15,8 @@ mod delivering;
 mod group;
 mod picking;
 mod start;
+#[cfg(test)]
+mod tests;
 
 pub use board::Board;
 pub use group::{GROUP_RESULTS, Group};
