@@ -15,8 +15,6 @@ mod delivering;
 mod group;
 mod picking;
 mod start;
-#[cfg(test)]
-mod tests;
 
 pub use board::Board;
 pub use group::{GROUP_RESULTS, Group};
