@@ -5,7 +5,7 @@ use Rattle.std.specs.Arc.{arc_value}
 use Rattle.qh_disk.specs.Disk.{Reads}
 use Rattle.qh_record.specs.Moments.{GoesOn}
 use Rattle.qh_board.specs.Board.{BeganWith}
-use Rattle.qh_run.specs.Ends.{answer_of}
+use Rattle.qh_run.specs.Ends.{answer_of, IsBounded}
 use Rattle.qh_run.specs.Carrying.{Completes}
 use Rattle.qh_counts.specs.Counts.{RoseBy}
 use Rattle.qh_plan.specs.Jobs.{Job, ranges}
@@ -73,3 +73,7 @@ returns-clause-finished g c full =
     let count : length table ≡ ranges j = c.failed.ensures.valid.count ∙ ap ranges c.requires.job in
     let none : NonePasses is_open 0 board.course.leases = subst (λ (course : CourseView). NonePasses is_open 0 course.leases) (sym c.in-Ok-attach.ensures.course) (full_started j table count full) in
     c.part-disk.ensures.disk ∙ ap (λ k. k.disk) (c.run_to_end-end.ensures.carries.still none).0 ∙ ap (λ k. k.disk) c.in-Ok-attach.ensures.journal
+
+pub returns-clause-bounded : goal.returns-clause-bounded
+returns-clause-bounded g c =
+    subst (λ (i : Job). IfSome (answer_of c.run_to_end-end.result) (IsBounded i)) c.in-Ok-attach.ensures.job c.run_to_end-end.ensures.bounded
