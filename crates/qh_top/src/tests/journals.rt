@@ -35,17 +35,6 @@ const BELL_NEW: Asked = Asked {
     circuit: BELL_CIRCUIT,
 };
 
-const BELL_FROM: Asked = Asked {
-    words: &["-c", "a", "-i", "b", "-k", "0", "-j", "j", "--from", "o"],
-    circuit: BELL_CIRCUIT,
-};
-
-/// Another circuit with Bell's words.
-const FLIPPED: Asked = Asked {
-    words: &["-c", "a", "-i", "b", "-k", "0", "-j", "j"],
-    circuit: b"2\n0 x 0\n1 cnot 0 1\n",
-};
-
 /// Two crossing gates, and a range for each term of the first.
 const TWO: Asked = Asked {
     words: &["-c", "a", "-i", "b", "-k", "0", "-p", "1", "-j", "j"],
@@ -78,15 +67,6 @@ const UNBEGUN: Wanted = Wanted {
     err: b"journal: Unbegun\n",
 };
 
-/// A run that writes no output.
-const fn stopped(status: u8, err: &'static [u8]) -> Wanted {
-    Wanted {
-        status,
-        out: b"",
-        err,
-    }
-}
-
 /// No file of these tests is longer.
 const ROOM: u64 = 800;
 
@@ -94,10 +74,8 @@ const ROOM: u64 = 800;
 const BELL_JOB: &[u8] =
     b"job 1\npart 0\nsplit 0 0\nprefix all\nbits 4\n00\n10\n01\n11\ngates 2\n2\n0 h 0\n1 cnot 0 1\n";
 
-/// What stands before the job text in Bell's journal, in format 2 and in format 1.
+/// What stands before the job text in Bell's journal.
 const HEAD: &[u8] = b"\xa5QSHJ002\0\0\0\0\0\0\0\x50\0\0\0\0\0\0\0\x01\0\0\0\0\0\0\0\x04";
-
-const OLD_HEAD: &[u8] = b"\xa5QSHJ001\0\0\0\0\0\0\0\x50";
 
 /// The bytes of a slot of four bitstrings.
 const SLOT: usize = 266;
@@ -227,128 +205,6 @@ fn crashes(rt: HostRuntime) -> Result<(), Fail> {
         for stop in stops {
             crash_each(&rt, &BELL, b"", stop, &first, &picks)?;
         }
-    }
-    Ok(())
-}
-
-/// The same where a finished journal is emptied: its header is closed before it is cut.
-#[test]
-fn crashes_of_a_new_journal(rt: HostRuntime) -> Result<(), Fail> {
-    let finished = journal(rt.alloc(), HEAD, 0, 1)?;
-    let table = [
-        (
-            0..4,
-            [
-                (Pick::Old, false),
-                (Pick::New, false),
-                (Pick::Byte(0x37), false),
-            ],
-        ),
-        (
-            4..5,
-            [
-                (Pick::Old, false),
-                (Pick::New, true),
-                (Pick::Byte(0x37), true),
-            ],
-        ),
-        (
-            5..6,
-            [
-                (Pick::Old, true),
-                (Pick::New, true),
-                (Pick::Byte(0x37), true),
-            ],
-        ),
-        (
-            6..7,
-            [
-                (Pick::Old, true),
-                (Pick::New, false),
-                (Pick::Byte(0x37), false),
-            ],
-        ),
-        (
-            7..8,
-            [
-                (Pick::Old, false),
-                (Pick::New, false),
-                (Pick::Byte(0x37), false),
-            ],
-        ),
-    ];
-    for (stops, picks) in table {
-        for stop in stops {
-            crash_each(&rt, &BELL_NEW, finished.as_slice(), stop, &FAULT, &picks)?;
-        }
-    }
-    Ok(())
-}
-
-/// Journals that hold what no run of the job has written. A journal that is refused stays as it is.
-#[test]
-fn planted(rt: HostRuntime) -> Result<(), Fail> {
-    let alloc = rt.alloc();
-    let finished = journal(alloc, HEAD, 0, 1)?;
-    let five = journal(alloc, HEAD, 0, 5)?;
-    let large = journal(alloc, HEAD, 0x80, 0)?;
-    let former = journal(alloc, OLD_HEAD, 0, 1)?;
-    let fives = Wanted {
-        out: b"00 5 0 0 0 1\n10 0 0 0 0 0\n01 0 0 0 0 0\n11 1 0 0 0 1\n",
-        ..PRINTED
-    };
-    let zeros: &[u8] = &[0; 5];
-    let none: &[u8] = b"";
-    let table = [
-        (BELL, five.as_slice(), fives),
-        (BELL, large.as_slice(), stopped(8, b"journal: BadSlot 0\n")),
-        (
-            FLIPPED,
-            finished.as_slice(),
-            stopped(8, b"journal: OtherJob at 97\n"),
-        ),
-        (BELL, zeros, UNBEGUN),
-        (
-            BELL,
-            former.as_slice(),
-            stopped(8, b"journal: OldJournal\n"),
-        ),
-        (BELL_FROM, none, stopped(8, b"old journal: Empty\n")),
-    ];
-    for (asked, bytes, wanted) in table {
-        let mut none = disk_of(&rt, alloc, b"")?;
-        let mut disk = disk_of(&rt, alloc, bytes)?;
-        run(&rt, &asked, &mut disk, &mut none, &wanted)?;
-        assert_eq!(rt; disk.bytes(), bytes);
-    }
-    let mut none = disk_of(&rt, alloc, b"")?;
-    let mut disk = disk_of(&rt, alloc, zeros)?;
-    run(&rt, &BELL_NEW, &mut disk, &mut none, &PRINTED)?;
-    assert_eq!(rt; disk.bytes(), finished.as_slice());
-    Ok(())
-}
-
-/// The journal of the first format is taken over and stays as it is. After a stop before the header is safe, it is taken over
-/// or the new file is not begun.
-#[test]
-fn taken_over(rt: HostRuntime) -> Result<(), Fail> {
-    let alloc = rt.alloc();
-    let finished = journal(alloc, HEAD, 0, 1)?;
-    let former = journal(alloc, OLD_HEAD, 0, 1)?;
-    for (stop, first, pick, second) in [
-        (None, PRINTED, Pick::New, PRINTED),
-        (Some(8), FAULT, Pick::New, PRINTED),
-        (Some(8), FAULT, Pick::Old, UNBEGUN),
-    ] {
-        let mut old = disk_of(&rt, alloc, former.as_slice())?;
-        let mut disk = disk_of(&rt, alloc, b"")?;
-        disk.again(None, stop);
-        run(&rt, &BELL_FROM, &mut disk, &mut old, &first)?;
-        disk.crash(pick);
-        disk.again(None, None);
-        run(&rt, &BELL_FROM, &mut disk, &mut old, &second)?;
-        assert_eq!(rt; second.status == 0, disk.bytes() == finished.as_slice());
-        assert_eq!(rt; old.bytes(), former.as_slice());
     }
     Ok(())
 }
