@@ -1,6 +1,4 @@
 //! Worked rows: each has the words, the two texts, the calls that fail, and the status, output and message that follow.
-mod journals;
-
 use crate::qsimh_alone;
 use qh_disk::MemDisk;
 use qh_io::{MemSink, MemSource};
