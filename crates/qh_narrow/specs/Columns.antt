@@ -1,0 +1,35 @@
+-- Columns as contracts see them: the number of qubits and the list of numbers.
+use Rattle.std.specs.Prelude.{◌≡◌, ℕ, ◌+◌, ◌-◌, ◌≤◌, ◌<◌, ◌^◌, ℤ, List, length, All}
+use Rattle.qh_limits.specs.Limits.{max_part_qubits}
+use Rattle.qh_ring.specs.declared.number.Omega.{Omega}
+use Rattle.qh_ring.specs.Numbers.{IsWithin, nothing}
+use Rattle.qh_ring.specs.States.{listed}
+use Rattle.qh_blocks.specs.declared.block.Block.{Block}
+use Rattle.qh_blocks.specs.Blocks.{IsBlock}
+use Rattle.qh_blocks.specs.Numbers.{number_at}
+
+pub record Columns : Type 0 where
+  pub qubits : ℕ
+  pub numbers : List Omega
+
+-- at most 20 qubits, and 2^qubits numbers, each coefficient's magnitude below 2^bits
+pub record AreColumns (bits : ℕ) (s : Columns) : Type 0 where
+  pub few : s.qubits ≤ max_part_qubits
+  pub len : length s.numbers ≡ 2 ^ s.qubits
+  pub within : All (IsWithin bits) s.numbers
+
+-- the numbers of 2^qubits indices, the first that the blocks hold
+abbrev pub first_numbers : {V : Type 0} → (V → List ℤ) → ℕ → ℕ → List (Block V) → List Omega
+first_numbers lanes places qubits v = listed qubits (number_at lanes places v)
+
+-- blocks for 2^qubits numbers: where these are fewer than a block has lanes, the others are 0
+pub record AreBlocksOf {V : Type 0} (lanes : V → List ℤ) (places qubits : ℕ) (v : List (Block V)) : Type 0 where
+  pub few : qubits ≤ max_part_qubits
+  pub len : length v ≡ 2 ^ (qubits - places)
+  pub others : (k : ℕ) → 2 ^ qubits ≤ k → number_at lanes places v k ≡ nothing
+
+-- what the code keeps: such blocks, whose coefficients are within the tracked bound, which is below the lanes' room
+pub record AreKept {V : Type 0} (lanes : V → List ℤ) (places room qubits bits : ℕ) (v : List (Block V)) : Type 0 where
+  pub blocks : AreBlocksOf lanes places qubits v
+  pub room_left : bits < room
+  pub bounded : All (IsBlock lanes (2 ^ places) bits) v

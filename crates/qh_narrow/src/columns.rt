@@ -1,0 +1,114 @@
+//! The state of a part in lanes of one width.
+ghost use Rattle.std.specs.Prelude.{◌≡◌, ◌≢◌, ◌<◌, ◌≤◌, ◌+◌, ◌-◌, ◌^◌, [], ◌∷◌, All, IsTrue, OnOk, OnErr, IfOk, IsOk};
+ghost use Rattle.qh_limits.specs.Limits.{max_part_qubits};
+ghost use Rattle.qh_ring.specs.Numbers.{IsWithin};
+ghost use Rattle.qh_ring.specs.Matrices.{number_in};
+ghost use Rattle.qh_ring.specs.States.{at_index, applied_list, listed, ground};
+ghost use Rattle.qh_kernel.specs.Rows.{are_single};
+
+use crate::blocks::{ground_state, turn1, turn2};
+use crate::number::number_of;
+use crate::wide::Wide;
+use qh_blocks::Block;
+use qh_ring::{Mat2, Mat4, Omega};
+use qh_vectors::Vector;
+use std::alloc::{AllocError, Global};
+use std::marker::Model;
+
+/// The state of at most 20 qubits, in lanes of one width. Qubit q is bit q of an index. Each coefficient's magnitude is
+/// below 2^(ROOM - 1). Contracts see the number of qubits and the list of numbers.
+#[derive(Drop)]
+pub struct Columns<V: Vector> {
+    qubits: u32,
+    bits: u32,
+    blocks: Vec<Block<V>>,
+}
+
+impl<V: Vector> Model for Columns<V> {
+    ghost use Rattle.qh_narrow.specs.Columns.{Columns, first_numbers, AreKept};
+
+    ghost Value = { Columns };
+
+    ghost view = { λ s. record { qubits = s.qubits; numbers = first_numbers V.lanes V.PLACES s.qubits s.blocks.items } };
+
+    ghost invariant = { λ s. AreKept V.lanes V.PLACES V.ROOM s.qubits s.bits s.blocks.items };
+}
+
+impl<V: Vector> Columns<V> {
+    ghost use Rattle.qh_narrow.specs.Columns.{AreColumns};
+
+    /// The state of 1 to 20 qubits with 1 at index 0 and 0 elsewhere.
+    pub fn ground(alloc: Global, qubits: u32) -> Result<Columns<V>, AllocError>
+        requires some { 1 ≤ qubits }
+        requires few { qubits ≤ max_part_qubits }
+        ensures { IfOk result (λ s. s ≡ record { qubits = qubits; numbers = listed qubits ground }) }
+    {
+        let blocks = ground_state(alloc, qubits)?;
+        Ok(Columns {
+            qubits,
+            bits: 1,
+            blocks,
+        })
+    }
+
+    /// The number of qubits.
+    pub fn qubits(&self) -> u32
+        ensures value { result ≡ self.now.qubits }
+        ensures valid { AreColumns (V.ROOM - 1) self.now }
+    {
+        self.qubits
+    }
+
+    /// Applies the matrix to qubit `q`. It is Wide exactly where a new coefficient's magnitude is 2^(ROOM - 1) or more,
+    /// and the columns are then unchanged.
+    pub fn apply1(&mut self, m: &Mat2, q: u32) -> Result<(), Wide>
+        requires { q < self.old.qubits }
+        ensures qubits { self.new.qubits ≡ self.old.qubits }
+        ensures exact { OnOk result (self.new.numbers ≡ applied_list (number_in m.now.rows) (q ∷ []) self.old.numbers) }
+        ensures within { OnOk result (All (IsWithin (V.ROOM - 1)) self.new.numbers) }
+        ensures wide { OnErr result (¬ All (IsWithin (V.ROOM - 1)) (applied_list (number_in m.now.rows) (q ∷ []) self.old.numbers)) }
+        ensures kept { OnErr result (self.new ≡ self.old) }
+    {
+        match turn1(&mut self.blocks, self.qubits, q, self.bits, m) {
+            Ok(bits) => {
+                self.bits = bits;
+                Ok(())
+            }
+            Err(wide) => Err(wide),
+        }
+    }
+
+    /// Applies the matrix to the distinct qubits `q0` and `q1`. Each row of the matrix has at most one entry other than Zero,
+    /// so that no coefficient's magnitude grows: it is never Wide.
+    pub fn apply2(&mut self, m: &Mat4, q0: u32, q1: u32) -> Result<(), Wide>
+        requires first { q0 < self.old.qubits }
+        requires second { q1 < self.old.qubits }
+        requires apart { q0 ≢ q1 }
+        requires single { IsTrue (are_single m.now.rows) }
+        ensures ok { IsOk result }
+        ensures qubits { self.new.qubits ≡ self.old.qubits }
+        ensures exact { self.new.numbers ≡ applied_list (number_in m.now.rows) (q0 ∷ q1 ∷ []) self.old.numbers }
+        ensures within { All (IsWithin (V.ROOM - 1)) self.new.numbers }
+    {
+        turn2(&mut self.blocks, self.qubits, q0, q1, self.bits, m);
+        Ok(())
+    }
+
+    /// Becomes the other state, of as many qubits.
+    pub fn copy_from(&mut self, other: &Columns<V>)
+        requires { self.old.qubits ≡ other.now.qubits }
+        ensures { self.new ≡ other.now }
+    {
+        self.bits = other.bits;
+        self.blocks.copy_from_slice(&other.blocks);
+    }
+
+    /// The number at an index.
+    pub fn at(&self, index: u32) -> Omega
+        requires { index < 2 ^ self.now.qubits }
+        ensures value { result ≡ at_index self.now.numbers index }
+        ensures within { IsWithin (V.ROOM - 1) result }
+    {
+        number_of(&self.blocks, self.qubits, index)
+    }
+}

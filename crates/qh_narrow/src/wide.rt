@@ -1,0 +1,5 @@
+//! What the lanes cannot hold.
+
+/// A coefficient does not fit the lanes.
+#[derive(Clone, Copy, PartialEq, Eq, Debug)]
+pub struct Wide;
