@@ -1,4 +1,4 @@
-use Rattle.std.proofs.Common.{◌/◌, ◌%◌, ◌^◌, ◌<◌, ◌-◌, ℕ, length, ap, sym, subst, ◌∙◌}
+use Rattle.std.proofs.Common.{◌/◌, ◌%◌, ◌^◌, ◌<◌, ◌-◌, ℕ, arith, length, ap, sym, subst, ◌∙◌}
 use Rattle.qh_ring.specs.Numbers.{IsWithin}
 use Rattle.qh_ring.specs.States.{at_index}
 use Rattle.qh_blocks.specs.Numbers.{number_at}
@@ -9,6 +9,11 @@ pub bounds-v-k : goal.bounds-v-k
 bounds-v-k g c =
     subst (λ n. n < length c.args.v.now) (sym (c.block_index-k.ensures ∙ ap (λ n. c.args.index / 2 ^ n) c.PLACES-places.ensures))
     (block_here g.V.Vector.lanes g.V.Vector.PLACES c.args.qubits c.args.v.now c.args.index c.requires.blocks c.requires.index)
+
+pub offset_bounds-v-k : goal.offset_bounds-v-k
+offset_bounds-v-k g c =
+    let l : c.block_index-k.result < length c.args.v.now = bounds-v-k g c in
+    omega (arith, l)
 
 pub lane_number-requires-clause-block : goal.lane_number-requires-clause-block
 lane_number-requires-clause-block g c =
