@@ -12,11 +12,25 @@ pub record Columns : Type 0 where
   pub qubits : ℕ
   pub numbers : List Omega
 
--- at most 20 qubits, and 2^qubits numbers, each coefficient's magnitude below 2^bits
-pub record AreColumns (bits : ℕ) (s : Columns) : Type 0 where
+-- each coefficient's magnitude is below 2^62
+abbrev pub narrow_bits : ℕ
+narrow_bits = 62
+
+-- at most 20 qubits, and 2^qubits numbers, each of them narrow
+pub record AreColumns (s : Columns) : Type 0 where
   pub few : s.qubits ≤ max_part_qubits
   pub len : length s.numbers ≡ 2 ^ s.qubits
-  pub within : All (IsWithin bits) s.numbers
+  pub within : All (IsWithin narrow_bits) s.numbers
+
+-- lanes of 64 bits: 2^3 to a vector, a magnitude has 63 bits
+abbrev pub lanes64 : List ℤ → List ℤ
+lanes64 v = v
+
+abbrev pub places64 : ℕ
+places64 = 3
+
+abbrev pub room64 : ℕ
+room64 = 63
 
 -- the numbers of 2^qubits indices, the first that the blocks hold
 abbrev pub first_numbers : {V : Type 0} → (V → List ℤ) → ℕ → ℕ → List (Block V) → List Omega

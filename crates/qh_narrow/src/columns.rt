@@ -1,44 +1,45 @@
-//! The state of a part in lanes of one width.
+//! The state of a part in lanes of 64 bits.
 ghost use Rattle.std.specs.Prelude.{◌≡◌, ◌≢◌, ◌<◌, ◌≤◌, ◌+◌, ◌-◌, ◌^◌, [], ◌∷◌, All, IsTrue, OnOk, OnErr, IfOk, IsOk};
 ghost use Rattle.qh_limits.specs.Limits.{max_part_qubits};
 ghost use Rattle.qh_ring.specs.Numbers.{IsWithin};
 ghost use Rattle.qh_ring.specs.Matrices.{number_in};
 ghost use Rattle.qh_ring.specs.States.{at_index, applied_list, listed, ground};
 ghost use Rattle.qh_kernel.specs.Rows.{are_single};
+ghost use Rattle.qh_narrow.specs.Columns.{narrow_bits};
 
 use crate::blocks::{ground_state, turn1, turn2};
 use crate::number::number_of;
 use crate::wide::Wide;
 use qh_blocks::Block;
 use qh_ring::{Mat2, Mat4, Omega};
-use qh_vectors::Vector;
 use std::alloc::{AllocError, Global};
 use std::marker::Model;
+use std::simd::i64x8;
 
-/// The state of at most 20 qubits, in lanes of one width. Qubit q is bit q of an index. Each coefficient's magnitude is
-/// below 2^(ROOM - 1). Contracts see the number of qubits and the list of numbers.
+/// The state of at most 20 qubits, each coefficient's magnitude below 2^62. Qubit q is bit q of an index. Contracts see the
+/// number of qubits and the list of numbers.
 #[derive(Drop)]
-pub struct Columns<V: Vector> {
+pub struct Columns {
     qubits: u32,
     bits: u32,
-    blocks: Vec<Block<V>>,
+    blocks: Vec<Block<i64x8>>,
 }
 
-impl<V: Vector> Model for Columns<V> {
-    ghost use Rattle.qh_narrow.specs.Columns.{Columns, first_numbers, AreKept};
+impl Model for Columns {
+    ghost use Rattle.qh_narrow.specs.Columns.{Columns, lanes64, places64, room64, first_numbers, AreKept};
 
     ghost Value = { Columns };
 
-    ghost view = { λ s. record { qubits = s.qubits; numbers = first_numbers V.lanes V.PLACES s.qubits s.blocks.items } };
+    ghost view = { λ s. record { qubits = s.qubits; numbers = first_numbers lanes64 places64 s.qubits s.blocks.items } };
 
-    ghost invariant = { λ s. AreKept V.lanes V.PLACES V.ROOM s.qubits s.bits s.blocks.items };
+    ghost invariant = { λ s. AreKept lanes64 places64 room64 s.qubits s.bits s.blocks.items };
 }
 
-impl<V: Vector> Columns<V> {
+impl Columns {
     ghost use Rattle.qh_narrow.specs.Columns.{AreColumns};
 
-    /// The state of 1 to 20 qubits with 1 at index 0 and 0 elsewhere.
-    pub fn ground(alloc: Global, qubits: u32) -> Result<Columns<V>, AllocError>
+    /// The state of 1 to 20 qubits with 1 at index 0 and 0 elsewhere. It takes 32 bytes a number, at least 256.
+    pub fn ground(alloc: Global, qubits: u32) -> Result<Columns, AllocError>
         requires some { 1 ≤ qubits }
         requires few { qubits ≤ max_part_qubits }
         ensures { IfOk result (λ s. s ≡ record { qubits = qubits; numbers = listed qubits ground }) }
@@ -54,19 +55,19 @@ impl<V: Vector> Columns<V> {
     /// The number of qubits.
     pub fn qubits(&self) -> u32
         ensures value { result ≡ self.now.qubits }
-        ensures valid { AreColumns (V.ROOM - 1) self.now }
+        ensures valid { AreColumns self.now }
     {
         self.qubits
     }
 
-    /// Applies the matrix to qubit `q`. It is Wide exactly where a new coefficient's magnitude is 2^(ROOM - 1) or more,
-    /// and the columns are then unchanged.
+    /// Applies the matrix to qubit `q`. It is Wide exactly where a new coefficient's magnitude is 2^62 or more, and the
+    /// columns are then unchanged.
     pub fn apply1(&mut self, m: &Mat2, q: u32) -> Result<(), Wide>
         requires { q < self.old.qubits }
         ensures qubits { self.new.qubits ≡ self.old.qubits }
         ensures exact { OnOk result (self.new.numbers ≡ applied_list (number_in m.now.rows) (q ∷ []) self.old.numbers) }
-        ensures within { OnOk result (All (IsWithin (V.ROOM - 1)) self.new.numbers) }
-        ensures wide { OnErr result (¬ All (IsWithin (V.ROOM - 1)) (applied_list (number_in m.now.rows) (q ∷ []) self.old.numbers)) }
+        ensures within { OnOk result (All (IsWithin narrow_bits) self.new.numbers) }
+        ensures wide { OnErr result (¬ All (IsWithin narrow_bits) (applied_list (number_in m.now.rows) (q ∷ []) self.old.numbers)) }
         ensures kept { OnErr result (self.new ≡ self.old) }
     {
         match turn1(&mut self.blocks, self.qubits, q, self.bits, m) {
@@ -88,14 +89,14 @@ impl<V: Vector> Columns<V> {
         ensures ok { IsOk result }
         ensures qubits { self.new.qubits ≡ self.old.qubits }
         ensures exact { self.new.numbers ≡ applied_list (number_in m.now.rows) (q0 ∷ q1 ∷ []) self.old.numbers }
-        ensures within { All (IsWithin (V.ROOM - 1)) self.new.numbers }
+        ensures within { All (IsWithin narrow_bits) self.new.numbers }
     {
         turn2(&mut self.blocks, self.qubits, q0, q1, self.bits, m);
         Ok(())
     }
 
     /// Becomes the other state, of as many qubits.
-    pub fn copy_from(&mut self, other: &Columns<V>)
+    pub fn copy_from(&mut self, other: &Columns)
         requires { self.old.qubits ≡ other.now.qubits }
         ensures { self.new ≡ other.now }
     {
@@ -107,7 +108,7 @@ impl<V: Vector> Columns<V> {
     pub fn at(&self, index: u32) -> Omega
         requires { index < 2 ^ self.now.qubits }
         ensures value { result ≡ at_index self.now.numbers index }
-        ensures within { IsWithin (V.ROOM - 1) result }
+        ensures within { IsWithin narrow_bits result }
     {
         number_of(&self.blocks, self.qubits, index)
     }

@@ -1,4 +1,4 @@
-//! Drawn circuits beside the wide numbers of qh_kernel, and the edge of each width.
+//! Drawn circuits beside the wide numbers of qh_kernel, and the edge of the lanes.
 ghost use Rattle.std.specs.Prelude.{◌≤◌, ◌↔◌, ◌≡◌, ◌^◌, All, length, IsTrue};
 ghost use Rattle.qh_limits.specs.Limits.{coefficient_bits};
 ghost use Rattle.qh_ring.specs.Numbers.{IsWithin};
@@ -7,10 +7,8 @@ ghost use Rattle.qh_kernel.specs.Rows.{is_single, are_single};
 use crate::{Columns, Wide};
 use qh_limits::COEFFICIENT_BITS;
 use qh_ring::{Entry, Mat2, Mat4, Omega, within};
-use qh_vectors::Vector;
 use std::alloc::Global;
 use std::process::Abort;
-use std::simd::{i16x16, i32x8, i64x8};
 use std::test::Fail;
 
 const O: Entry = Entry::Zero;
@@ -159,14 +157,14 @@ fn wide2(rt: &impl Abort, all: &mut [Omega; 64], qubits: u32, m: &Mat4, q0: u32,
     qh_kernel::apply2(v, qubits, m, q0, q1);
 }
 
-fn at<V: Vector>(rt: &impl Abort, columns: &Columns<V>, index: u32) -> Omega {
+fn at(rt: &impl Abort, columns: &Columns, index: u32) -> Omega {
     let qubits = columns.qubits();
     assert!(rt; qubits <= 6);
     assert!(rt; (index as usize) < count_of(qubits));
     columns.at(index)
 }
 
-fn equals<V: Vector>(rt: &impl Abort, columns: &Columns<V>, v: &[Omega; 64]) -> bool {
+fn equals(rt: &impl Abort, columns: &Columns, v: &[Omega; 64]) -> bool {
     let qubits = columns.qubits();
     for x in 0..64u32 {
         if x >> qubits.min(6) == 0 && at(rt, columns, x) != v[x as usize] {
@@ -176,32 +174,21 @@ fn equals<V: Vector>(rt: &impl Abort, columns: &Columns<V>, v: &[Omega; 64]) -> 
     true
 }
 
-fn apply1<V: Vector>(
-    rt: &impl Abort,
-    columns: &mut Columns<V>,
-    m: &Mat2,
-    q: u32,
-) -> Result<(), Wide> {
+fn apply1(rt: &impl Abort, columns: &mut Columns, m: &Mat2, q: u32) -> Result<(), Wide> {
     let qubits = columns.qubits();
     assert!(rt; q < qubits);
     columns.apply1(m, q)
 }
 
 /// Applies the matrix to both, and compares them. Where the columns are too narrow, both stay.
-fn step1<V: Vector>(
-    rt: &impl Abort,
-    columns: &mut Columns<V>,
-    v: &mut [Omega; 64],
-    m: &Mat2,
-    q: u32,
-) {
+fn step1(rt: &impl Abort, columns: &mut Columns, v: &mut [Omega; 64], m: &Mat2, q: u32) {
     let qubits = columns.qubits();
     let mut new = *v;
     wide1(rt, &mut new, qubits, m, q);
     let answer = apply1(rt, columns, m, q);
     assert_eq!(rt;
         answer.is_ok(),
-        fit(rt, &new, V::ROOM.wrapping_sub(1)),
+        fit(rt, &new, 62),
         "{m:?} on {q} of {qubits}"
     );
     if answer.is_ok() {
@@ -210,14 +197,7 @@ fn step1<V: Vector>(
     assert!(rt; equals(rt, columns, v), "{m:?} on {q} of {qubits}");
 }
 
-fn step2<V: Vector>(
-    rt: &impl Abort,
-    columns: &mut Columns<V>,
-    v: &mut [Omega; 64],
-    m: &Mat4,
-    q0: u32,
-    q1: u32,
-) {
+fn step2(rt: &impl Abort, columns: &mut Columns, v: &mut [Omega; 64], m: &Mat4, q0: u32, q1: u32) {
     let qubits = columns.qubits();
     wide2(rt, v, qubits, m, q0, q1);
     assert!(rt; q0 < qubits && q1 < qubits && q0 != q1);
@@ -226,7 +206,7 @@ fn step2<V: Vector>(
     assert!(rt; equals(rt, columns, v), "{m:?} on {q0} {q1} of {qubits}");
 }
 
-fn copy_onto<V: Vector>(rt: &impl Abort, columns: &mut Columns<V>, other: &Columns<V>) {
+fn copy_onto(rt: &impl Abort, columns: &mut Columns, other: &Columns) {
     let qubits = columns.qubits();
     let others = other.qubits();
     assert!(rt; qubits == others);
@@ -242,7 +222,7 @@ fn draw(state: &mut u64) -> u32 {
 }
 
 /// 60 drawn gates on columns in the ground state: about one in three acts on two qubits, where there are two.
-fn run<V: Vector>(rt: &impl Abort, mut columns: Columns<V>, seed: u64) {
+fn run(rt: &impl Abort, mut columns: Columns, seed: u64) {
     let qubits = columns.qubits();
     assert!(rt; 1 <= qubits);
     let mut v = [Omega::ZERO; 64];
@@ -261,10 +241,10 @@ fn run<V: Vector>(rt: &impl Abort, mut columns: Columns<V>, seed: u64) {
     }
 }
 
-fn run_all<V: Vector>(rt: &impl Abort, alloc: Global) -> Result<(), Fail> {
+fn run_all(rt: &impl Abort, alloc: Global) -> Result<(), Fail> {
     for qubits in 1..7u32 {
         for seed in 0..12u64 {
-            run(rt, Columns::<V>::ground(alloc, qubits)?, seed);
+            run(rt, Columns::ground(alloc, qubits)?, seed);
         }
     }
     Ok(())
@@ -272,7 +252,7 @@ fn run_all<V: Vector>(rt: &impl Abort, alloc: Global) -> Result<(), Fail> {
 
 /// The first of many Hadamard gates on one qubit of the ground state for which the columns are too narrow. Before it both
 /// numbers of this qubit are `most`.
-fn first_wide<V: Vector>(rt: &impl Abort, mut columns: Columns<V>, q: u32, most: i128) -> u32 {
+fn first_wide(rt: &impl Abort, mut columns: Columns, q: u32, most: i128) -> u32 {
     assert!(rt; q < 6);
     let whole = Omega {
         a: most,
@@ -289,29 +269,15 @@ fn first_wide<V: Vector>(rt: &impl Abort, mut columns: Columns<V>, q: u32, most:
 }
 
 #[test]
-fn lanes_of_16_bits(rt: HostRuntime) -> Result<(), Fail> {
-    run_all::<i16x16>(&rt, rt.alloc())
-}
-
-#[test]
-fn lanes_of_32_bits(rt: HostRuntime) -> Result<(), Fail> {
-    run_all::<i32x8>(&rt, rt.alloc())
-}
-
-#[test]
-fn lanes_of_64_bits(rt: HostRuntime) -> Result<(), Fail> {
-    run_all::<i64x8>(&rt, rt.alloc())
+fn drawn_circuits(rt: HostRuntime) -> Result<(), Fail> {
+    run_all(&rt, rt.alloc())
 }
 
 /// After 2k - 1 Hadamard gates on one qubit both its numbers are 2^(k - 1), and one more makes the first 2^k.
 #[test]
 fn edges(rt: HostRuntime) -> Result<(), Fail> {
     for (qubits, q) in [(1u32, 0u32), (2, 1), (4, 3), (6, 5)] {
-        let columns = Columns::<i16x16>::ground(rt.alloc(), qubits)?;
-        assert_eq!(rt; first_wide(&rt, columns, q, 8192), 28);
-        let columns = Columns::<i32x8>::ground(rt.alloc(), qubits)?;
-        assert_eq!(rt; first_wide(&rt, columns, q, 536870912), 60);
-        let columns = Columns::<i64x8>::ground(rt.alloc(), qubits)?;
+        let columns = Columns::ground(rt.alloc(), qubits)?;
         assert_eq!(rt; first_wide(&rt, columns, q, 2305843009213693952), 124);
     }
     Ok(())
@@ -320,8 +286,8 @@ fn edges(rt: HostRuntime) -> Result<(), Fail> {
 /// A copy has the numbers and the room of the other.
 #[test]
 fn copies(rt: HostRuntime) -> Result<(), Fail> {
-    let mut columns = Columns::<i64x8>::ground(rt.alloc(), 1)?;
-    let mut copy = Columns::<i64x8>::ground(rt.alloc(), 1)?;
+    let mut columns = Columns::ground(rt.alloc(), 1)?;
+    let mut copy = Columns::ground(rt.alloc(), 1)?;
     for _gate in 0..123 {
         assert_eq!(rt; apply1(&rt, &mut columns, &dense(0), 0), Ok(()));
     }
