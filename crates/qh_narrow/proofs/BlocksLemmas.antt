@@ -1,9 +1,9 @@
 -- A state of any number of qubits in blocks: its numbers come first, and what follows them is 0.
-use Rattle.std.proofs.Common.{◌≡◌, ℕ, zero, suc, ◌+◌, ◌-◌, ◌*◌, ◌/◌, ◌%◌, ◌^◌, ◌<◌, ◌≤◌, inl, inr, ℤ, List, ◌++◌, length, take, drop, arith, refl, sym, ap, subst, ◌∙◌}
+use Rattle.std.proofs.Common.{◌≡◌, ℕ, zero, suc, ◌+◌, ◌-◌, ◌*◌, ◌^◌, ◌<◌, ◌≤◌, inl, inr, ℤ, List, length, arith, refl, sym, ap, subst, ◌∙◌}
 use Rattle.std.proofs.Math.Pow.{pow_mono}
 use Rattle.std.proofs.lemmas.Nat.{pow_pos, pow-add}
 use Rattle.std.proofs.lemmas.Bool.{cases_lt}
-use Rattle.std.proofs.lemmas.List.{get_or_past, take_at}
+use Rattle.std.proofs.lemmas.List.{get_or_past}
 use Rattle.std.proofs.lemmas.List.FromFn.{get_or-map-range_with_len}
 use Rattle.qh_limits.specs.Limits.{max_part_qubits}
 use Rattle.qh_ring.specs.declared.number.Omega.{Omega}
@@ -114,7 +114,3 @@ blocks_ground lanes b q v few len e = record {
         ∙ get_or_past (listed (q - b + b) ground) k nothing (subst (λ n. n ≤ k) (sym (length-listed (q - b + b) ground)) past)
   ];
 }
-
--- ---- what a `Vec` holds once its slice was written whole
-pub written_whole : {A : Type 0} (n : ℕ) (xs ys : List A) → n ≡ length ys → length xs ≡ length ys → take n (xs ++ drop (length xs) ys) ≡ xs
-written_whole n xs ys e f = take_at xs (drop (length xs) ys) n (f ∙ sym e)

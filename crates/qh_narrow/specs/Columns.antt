@@ -1,5 +1,5 @@
 -- Columns as contracts see them: the number of qubits and the list of numbers.
-use Rattle.std.specs.Prelude.{◌≡◌, ℕ, ◌+◌, ◌-◌, ◌≤◌, ◌<◌, ◌^◌, ℤ, List, length, All}
+use Rattle.std.specs.Prelude.{◌≡◌, ℕ, ◌-◌, ◌≤◌, ◌<◌, ◌^◌, ℤ, List, length, All}
 use Rattle.qh_limits.specs.Limits.{max_part_qubits}
 use Rattle.qh_ring.specs.declared.number.Omega.{Omega}
 use Rattle.qh_ring.specs.Numbers.{IsWithin, nothing}

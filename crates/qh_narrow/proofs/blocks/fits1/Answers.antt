@@ -1,4 +1,4 @@
-use Rattle.std.proofs.Common.{◌-◌, ℕ, [], ◌∷◌, subst, sym, ap}
+use Rattle.std.proofs.Common.{◌-◌, ℕ, [], ◌∷◌, subst, sym}
 use Rattle.std.specs.List.{All}
 use Rattle.qh_ring.specs.Numbers.{IsWithin}
 use Rattle.qh_ring.specs.Matrices.{number_in}

@@ -1,4 +1,4 @@
-use Rattle.std.proofs.Common.{◌-◌, ◌<◌, ◌≤◌, ℕ, arith}
+use Rattle.std.proofs.Common.{◌-◌, ◌≤◌, arith}
 use Rattle.qh_narrow.proofs.WithinLemmas.{blocks_within}
 use Rattle.qh_narrow.proofs.blocks.true_bits.Goals as goal
 

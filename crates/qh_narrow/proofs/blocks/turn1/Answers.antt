@@ -1,11 +1,9 @@
-use Rattle.std.proofs.Common.{◌<◌, ◌-◌, ◌^◌, ℕ, subst, sym}
+use Rattle.std.proofs.Common.{◌<◌, ◌^◌, ℕ, subst, sym}
 use Rattle.std.specs.List.{All}
-use Rattle.qh_ring.specs.Numbers.{IsWithin}
 use Rattle.qh_blocks.specs.Blocks.{IsBlock}
 use Rattle.qh_blocks.specs.Widths.{width_after}
 use Rattle.qh_blocks.proofs.PartLemmas.{blocks_more}
 use Rattle.qh_blocks.proofs.WidthLemmas.{width_room}
-use Rattle.qh_narrow.specs.Columns.{first_numbers}
 use Rattle.qh_narrow.proofs.WithinLemmas.{first_below}
 use Rattle.qh_narrow.proofs.blocks.turn1.Goals as goal
 

@@ -1,6 +1,5 @@
-use Rattle.std.proofs.Common.{◌/◌, ◌%◌, ◌^◌, ◌<◌, ◌-◌, ℕ, arith, length, ap, sym, subst, ◌∙◌}
+use Rattle.std.proofs.Common.{◌/◌, ◌%◌, ◌^◌, ◌<◌, ◌-◌, arith, length, ap, sym, subst, ◌∙◌}
 use Rattle.qh_ring.specs.Numbers.{IsWithin}
-use Rattle.qh_ring.specs.States.{at_index}
 use Rattle.qh_blocks.specs.Numbers.{number_at}
 use Rattle.qh_narrow.proofs.WithinLemmas.{block_here, number_here, block_room, first_within, at_within}
 use Rattle.qh_narrow.proofs.number.number_of.Goals as goal
