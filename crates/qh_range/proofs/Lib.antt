@@ -4,3 +4,4 @@ pub mod SideLemmas
 pub mod ProductLemmas
 pub mod PathLemmas
 pub mod ValueLemmas
+pub mod Examples

@@ -15,8 +15,10 @@ use Rattle.qh_meaning.proofs.PartLemmas.{local_below}
 use Rattle.qh_meaning.proofs.TotalLemmas.{length-added, at_added}
 use Rattle.qh_part.specs.declared.part.Part.{Part}
 use Rattle.qh_range.specs.declared.side.Side.{Side}
-use Rattle.qh_part.specs.Parts.{in_part}
-use Rattle.qh_range.specs.Sides.{IsSide, at_half, number_at}
+use Rattle.qh_part.specs.Parts.{in_part, width}
+use Rattle.qh_part.specs.declared.place.Placed.{Placed}
+use Rattle.qh_half.specs.Halves.{Half}
+use Rattle.qh_range.specs.Sides.{IsSide, path_end, end_of, at_half, number_at}
 
 -- of the first i bitstrings the numbers are added, and each passed the test
 pub record IsAdded (f : ℕ → Omega) (p : ℕ → Bool) (bits : List ℕ) (old : List Omega) (i : ℕ) (sums : List Omega) : Type 0 where
@@ -68,14 +70,22 @@ held : (o : Option (List Omega)) (i r : ℕ) (x : Omega) → IfSome o (λ v. x �
 held None i r x h s e = absurd (false≢true s)
 held (Some v) i r x h s e = h ∙ ap (at_index v) e
 
+-- the half with which a path ends has the part's qubits
+pub end_size : (part : Part) (j : Job) (s : Side) → IsSide part j s → (end_of s).qubits ≡ width part j
+end_size part j s side = by_gates s.gates.items s.root s.half (width part j) side.root_size side.size
+  where
+    by_gates : (gates : List Placed) (root half : Half) (n : ℕ) → root.qubits ≡ n → half.qubits ≡ n → (path_end gates root half).qubits ≡ n
+    by_gates [] root half n a b = a
+    by_gates (g ∷ gates) root half n a b = b
+
 -- the index that a side keeps of a bitstring, and the number there
 module _ (part : Part) (j : Job) (s : Side) (side : IsSide part j s) (i index : ℕ) (below : i < length j.bits) (kept : index ≡ get_or s.indices.items i index) where
   index_is : index ≡ local_index (in_part part j) j.circuit.qubits (get_or j.bits i 0)
   index_is = kept ∙ ap (λ xs. get_or xs i index) side.indices ∙ get_or-map (local_index (in_part part j) j.circuit.qubits) j.bits i 0 index below
 
-  pub index_below : index < 2 ^ s.half.qubits
-  index_below = subst (λ k. k < 2 ^ s.half.qubits) (sym index_is)
-      (subst (λ n. local_index (in_part part j) j.circuit.qubits (get_or j.bits i 0) < 2 ^ n) (sym side.size) (local_below (in_part part j) j.circuit.qubits (get_or j.bits i 0)))
+  pub index_below : index < 2 ^ (end_of s).qubits
+  index_below = subst (λ k. k < 2 ^ (end_of s).qubits) (sym index_is)
+      (subst (λ n. local_index (in_part part j) j.circuit.qubits (get_or j.bits i 0) < 2 ^ n) (sym (end_size part j s side)) (local_below (in_part part j) j.circuit.qubits (get_or j.bits i 0)))
 
-  pub number_is : (x : Omega) → IfSome s.half.numbers (λ v. x ≡ at_index v index) → IsSome s.half.numbers → x ≡ number_at part j s.half.numbers (get_or j.bits i 0)
-  number_is x h some = held s.half.numbers index (local_index (in_part part j) j.circuit.qubits (get_or j.bits i 0)) x h some index_is
+  pub number_is : (x : Omega) → IfSome (end_of s).numbers (λ v. x ≡ at_index v index) → IsSome (end_of s).numbers → x ≡ number_at part j (end_of s).numbers (get_or j.bits i 0)
+  number_is x h some = held (end_of s).numbers index (local_index (in_part part j) j.circuit.qubits (get_or j.bits i 0)) x h some index_is

@@ -1,5 +1,5 @@
 -- A part's half at the root of a range and along a path, from its placed gates.
-use Rattle.std.proofs.Common.{◌≡◌, ℕ, ◌<◌, List, ◌++◌, length, count_by, Option, Some, sym, ap, subst, ◌∙◌}
+use Rattle.std.proofs.Common.{◌≡◌, ℕ, ◌<◌, List, [], ◌∷◌, ◌++◌, length, count_by, Option, Some, refl, sym, ap, subst, ◌∙◌}
 use Rattle.std.proofs.Math.Path.{ap₂, subst₂}
 use Rattle.std.specs.List.{All, AllZip}
 use Rattle.std.proofs.lemmas.List.Sums.{fold-append}
@@ -14,6 +14,7 @@ use Rattle.qh_meaning.proofs.PrefixLemmas.{length-path_digits}
 use Rattle.qh_part.specs.declared.part.Part.{Part}
 use Rattle.qh_part.specs.declared.stage.Stage.TheVariants.{Prefix, Root, Suffix}
 use Rattle.qh_part.specs.Parts.{in_part, width, acts_in}
+use Rattle.qh_part.specs.declared.place.Placed.{Placed}
 use Rattle.qh_part.specs.Places.{IsPlacedIn, operations, term_counts}
 use Rattle.qh_part.specs.Runs.{IsAfter}
 use Rattle.qh_part.specs.Stages.{stage_gates, stage_radices, stretch}
@@ -21,8 +22,21 @@ use Rattle.qh_part.proofs.PlaceLemmas.{operations_placed, length_placed}
 use Rattle.qh_part.proofs.StageLemmas.{stage_takes, stage_operations, by_stages}
 use Rattle.qh_prefix.specs.Checkpoints.{IsAtPrefix, prefix_operations}
 use Rattle.qh_range.specs.declared.side.Side.{Side}
-use Rattle.qh_range.specs.Sides.{IsSide, IsAtRoot, root_digits, root_operations}
+use Rattle.qh_range.specs.Sides.{IsSide, IsAtRoot, path_end, root_digits, root_operations}
 use Rattle.qh_range.proofs.RootLemmas.{prefix_same, root_same}
+
+-- where a path ends, and that without gates it ends where it began
+pub end_at_root : (gates : List Placed) (root half : Half) → gates ≡ [] → path_end gates root half ≡ root
+end_at_root gates root half none = ap (λ gs. path_end gs root half) none
+
+pub end_at_half : (gates : List Placed) (root half : Half) → (gates ≡ [] → ⊥) → path_end gates root half ≡ half
+end_at_half [] root half some = absurd (some refl)
+end_at_half (g ∷ gates) root half some = refl
+
+pub after_none : (n : ℕ) (gates : List Placed) (ds : List ℕ) (root half : Half) → gates ≡ []
+    → IsAfter n (operations gates ds) root.numbers (path_end gates root half).numbers
+after_none n gates ds root half none =
+    subst (λ gs. IsAfter n (operations gs ds) root.numbers (path_end gs root half).numbers) (sym none) (record { step = λ state holds. holds })
 
 -- the operations of a path are those of its range, and those of its suffix
 module _ (part : Part) (j : Job) (valid : IsJob j) (range path : ℕ) (within : range < ranges j) (here : IsInRange j range path) where

@@ -1,5 +1,5 @@
 -- What an evaluation keeps of one part.
-use Rattle.std.specs.Prelude.{◌≡◌, ℕ, ◌+◌, ◌%◌, List, All, map, Option, Some, None}
+use Rattle.std.specs.Prelude.{◌≡◌, ℕ, ◌+◌, ◌%◌, List, [], ◌∷◌, All, map, Option, Some, None}
 use Rattle.qh_ring.specs.declared.number.Omega.{Omega}
 use Rattle.qh_ring.specs.Numbers.{nothing}
 use Rattle.qh_ring.specs.States.{ground, at_index}
@@ -12,10 +12,12 @@ use Rattle.qh_meaning.specs.Halves.{half_operations}
 use Rattle.qh_meaning.specs.Traces.{half_after, HoldsHalf}
 use Rattle.qh_part.specs.declared.part.Part.{Part}
 use Rattle.qh_part.specs.Parts.{in_part, width}
+use Rattle.qh_part.specs.declared.place.Placed.{Placed}
 use Rattle.qh_part.specs.Places.{IsPlacedIn, placed}
 use Rattle.qh_part.specs.declared.stage.Stage.TheVariants.{Root, Suffix}
 use Rattle.qh_part.specs.Stages.{stage_gates, stage_radices}
 use Rattle.qh_prefix.specs.Checkpoints.{prefix_operations}
+use Rattle.qh_half.specs.Halves.{Half}
 use Rattle.qh_range.specs.declared.side.Side.{Side}
 
 -- the gates of the root and of the suffix that act in the part, two halves of as many qubits, and the asked indices within the part
@@ -44,6 +46,14 @@ abbrev pub IsAtRoot : Part → Job → ℕ → Option (List Omega) → Type 0
 IsAtRoot part j range numbers =
     HoldsHalf (width part j)
     (half_after (width part j) (half_after (width part j) (Some ground) (prefix_operations part j (prefix_of j range))) (root_operations part j range)) numbers
+
+-- where a path ends in a part: with the half at the root where no gate of the suffix acts in the part, and else with the half that ran
+abbrev pub path_end : List Placed → Half → Half → Half
+path_end [] root half = root
+path_end (g ∷ gates) root half = half
+
+abbrev pub end_of : Side → Half
+end_of s = path_end s.gates.items s.root s.half
 
 -- the number that a half holds at an index
 abbrev pub at_half : Option (List Omega) → ℕ → Omega

@@ -3,8 +3,9 @@
 //! An evaluation takes its memory first: two halves a part, the gates of the root and the suffix placed in each part, one
 //! number a bitstring and two indices a bitstring, and where it is given no checkpoint one more half a part. It goes once
 //! from the checkpoint to the root of the range. Then each path copies the root's half in each part, goes once over it for
-//! each gate of the suffix that acts in that part, and multiplies two numbers a bitstring. Where part 1 is over, the path
-//! costs nothing in part 2. A room keeps this memory from one range to the next.
+//! each gate of the suffix that acts in that part, and multiplies two numbers a bitstring. A part in which no such gate acts
+//! is read where it stands at the root: it costs no copy. Where part 1 is over, the path costs nothing in part 2. A room keeps
+//! this memory from one range to the next.
 //! It knows nothing of journals, leases or workers.
 #![tactic(auto)]
 

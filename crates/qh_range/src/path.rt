@@ -12,9 +12,9 @@ ghost use Rattle.qh_part.specs.declared.part.Part.TheVariants as Parts;
 ghost use Rattle.qh_part.specs.declared.stage.Stage.TheVariants as Stages;
 ghost use Rattle.qh_part.specs.Stages.{stage_steps};
 ghost use Rattle.qh_plan.specs.Ranges.{IsInRange};
-ghost use Rattle.qh_range.specs.Sides.{IsSide, IsAtRoot, number_at};
+ghost use Rattle.qh_range.specs.Sides.{IsSide, IsAtRoot, end_of, number_at};
 
-use crate::side::{Side, run_half};
+use crate::side::{Side, is_over, number_at, run_half};
 use qh_part::{Stage, stage_digits};
 use qh_plan::Job;
 use qh_ring::{Omega, add_bounded, mul_checked};
@@ -25,16 +25,16 @@ use std::sync::ledger::Ledger;
 fn add_products(sums: &mut [Omega], job: &Job, one: &Side, two: &Side) -> bool
     requires one { IsSide Parts.One job.now one.now }
     requires two { IsSide Parts.Two job.now two.now }
-    requires one_held { IsSome one.now.half.numbers }
-    requires two_held { IsSome two.now.half.numbers }
+    requires one_held { IsSome (end_of one.now).numbers }
+    requires two_held { IsSome (end_of two.now).numbers }
     requires same_length { length sums.old ≡ length job.now.bits }
     requires bounded { All (IsWithin coefficient_bits) sums.old }
-    ensures fits { result ≡ list_all (λ b. are_narrow (number_at Parts.One job.now one.now.half.numbers b) (number_at Parts.Two job.now two.now.half.numbers b)) job.now.bits }
-    ensures sums { result ≡ Bool.true → sums.new ≡ added sums.old (map (λ b. product (number_at Parts.One job.now one.now.half.numbers b) (number_at Parts.Two job.now two.now.half.numbers b)) job.now.bits) }
+    ensures fits { result ≡ list_all (λ b. are_narrow (number_at Parts.One job.now (end_of one.now).numbers b) (number_at Parts.Two job.now (end_of two.now).numbers b)) job.now.bits }
+    ensures sums { result ≡ Bool.true → sums.new ≡ added sums.old (map (λ b. product (number_at Parts.One job.now (end_of one.now).numbers b) (number_at Parts.Two job.now (end_of two.now).numbers b)) job.now.bits) }
 {
     for i in 0..sums.len() {
-        let x = one.half.at(one.indices[i]);
-        let y = two.half.at(two.indices[i]);
+        let x = number_at(one, one.indices[i]);
+        let y = number_at(two, two.indices[i]);
         let Ok(product) = mul_checked(&x, &y) else {
             return false;
         };
@@ -74,11 +74,11 @@ pub(crate) fn add_path<L: Ledger>(
     let path_digits = job.digits(path);
     let digits = stage_digits(job, Stage::Suffix, &path_digits);
     run_half(one, digits, steps);
-    if one.half.is_over() {
+    if is_over(one) {
         return false;
     }
     run_half(two, digits, steps);
-    if two.half.is_over() {
+    if is_over(two) {
         return false;
     }
     add_products(sums, job, one, two)

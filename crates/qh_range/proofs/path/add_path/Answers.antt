@@ -6,6 +6,7 @@ use Rattle.qh_part.specs.declared.part.Part.TheVariants.{One, Two}
 use Rattle.qh_part.specs.declared.stage.Stage.TheVariants.{Suffix}
 use Rattle.qh_part.specs.Stages.{stretch, stage_radices}
 use Rattle.qh_part.proofs.StageLemmas.{stretch_below}
+use Rattle.qh_range.specs.Sides.{end_of}
 use Rattle.qh_range.proofs.RootLemmas.{path_below}
 use Rattle.qh_range.proofs.SideLemmas.{takes_suffix, holds, suffix_steps}
 use Rattle.qh_range.proofs.PathLemmas.{over_half, held_half, not_first, not_second, fits_both, sums_both}
@@ -36,7 +37,7 @@ returns-then-is_over-clause-fits g c =
     let j = c.args.job.now in
     let e : c.stage_digits-digits.result.now ≡ stretch Suffix j (digits_of j c.args.path) =
     c.stage_digits-digits.ensures ∙ ap (stretch Suffix j) (c.deref.ensures.0 ∙ c.digits-path_digits.ensures.value) in
-    not_first j c.args.path (over_half One j c.args.path (digits_of j c.args.path) c.run_half.new.side.half.numbers refl (holds One j c.args.one.now c.requires.one c.args.range c.args.path c.stage_digits-digits.result.now c.run_half.new.side.half.numbers c.requires.valid c.requires.range c.requires.below
+    not_first j c.args.path (over_half One j c.args.path (digits_of j c.args.path) (end_of c.run_half.new.side).numbers refl (holds One j c.args.one.now c.requires.one c.args.range c.args.path c.stage_digits-digits.result.now (end_of c.run_half.new.side).numbers c.requires.valid c.requires.range c.requires.below
     c.requires.one_root e c.run_half.ensures.after)
     (c.is_over.ensures.value.0 c.if-is_over.true))
 
@@ -51,7 +52,7 @@ returns-then-is_over-2-clause-fits g c =
     let j = c.args.job.now in
     let e : c.stage_digits-digits.result.now ≡ stretch Suffix j (digits_of j c.args.path) =
     c.stage_digits-digits.ensures ∙ ap (stretch Suffix j) (c.deref.ensures.0 ∙ c.digits-path_digits.ensures.value) in
-    not_second j c.args.path (over_half Two j c.args.path (digits_of j c.args.path) c.run_half-2.new.side.half.numbers refl (holds Two j c.args.two.now c.requires.two c.args.range c.args.path c.stage_digits-digits.result.now c.run_half-2.new.side.half.numbers c.requires.valid c.requires.range c.requires.below
+    not_second j c.args.path (over_half Two j c.args.path (digits_of j c.args.path) (end_of c.run_half-2.new.side).numbers refl (holds Two j c.args.two.now c.requires.two c.args.range c.args.path c.stage_digits-digits.result.now (end_of c.run_half-2.new.side).numbers c.requires.valid c.requires.range c.requires.below
     c.requires.two_root e c.run_half-2.ensures.after)
     (c.is_over-2.ensures.value.0 c.if-is_over-2.true))
 
@@ -68,26 +69,26 @@ returns-clause-fits g c =
     let j = c.args.job.now in
     let e : c.stage_digits-digits.result.now ≡ stretch Suffix j (digits_of j c.args.path) =
     c.stage_digits-digits.ensures ∙ ap (stretch Suffix j) (c.deref.ensures.0 ∙ c.digits-path_digits.ensures.value) in
-    let x = held_half One j c.args.path (digits_of j c.args.path) c.run_half.new.side.half.numbers refl (holds One j c.args.one.now c.requires.one c.args.range c.args.path c.stage_digits-digits.result.now c.run_half.new.side.half.numbers c.requires.valid c.requires.range c.requires.below
+    let x = held_half One j c.args.path (digits_of j c.args.path) (end_of c.run_half.new.side).numbers refl (holds One j c.args.one.now c.requires.one c.args.range c.args.path c.stage_digits-digits.result.now (end_of c.run_half.new.side).numbers c.requires.valid c.requires.range c.requires.below
     c.requires.one_root e c.run_half.ensures.after)
     (λ o. both_ways c.is_over.result c.if-is_over.false (c.is_over.ensures.value.1 o)) in
-    let y = held_half Two j c.args.path (digits_of j c.args.path) c.run_half-2.new.side.half.numbers refl (holds Two j c.args.two.now c.requires.two c.args.range c.args.path c.stage_digits-digits.result.now c.run_half-2.new.side.half.numbers c.requires.valid c.requires.range c.requires.below
+    let y = held_half Two j c.args.path (digits_of j c.args.path) (end_of c.run_half-2.new.side).numbers refl (holds Two j c.args.two.now c.requires.two c.args.range c.args.path c.stage_digits-digits.result.now (end_of c.run_half-2.new.side).numbers c.requires.valid c.requires.range c.requires.below
     c.requires.two_root e c.run_half-2.ensures.after)
     (λ o. both_ways c.is_over-2.result c.if-is_over-2.false (c.is_over-2.ensures.value.1 o)) in
-    fits_both j c.args.path c.run_half.new.side.half.numbers c.run_half-2.new.side.half.numbers x.1 y.1 c.add_products.result x.0 y.0 c.add_products.ensures.fits
+    fits_both j c.args.path (end_of c.run_half.new.side).numbers (end_of c.run_half-2.new.side).numbers x.1 y.1 c.add_products.result x.0 y.0 c.add_products.ensures.fits
 
 pub returns-clause-sums : goal.returns-clause-sums
 returns-clause-sums g c =
     let j = c.args.job.now in
     let e : c.stage_digits-digits.result.now ≡ stretch Suffix j (digits_of j c.args.path) =
     c.stage_digits-digits.ensures ∙ ap (stretch Suffix j) (c.deref.ensures.0 ∙ c.digits-path_digits.ensures.value) in
-    let x = held_half One j c.args.path (digits_of j c.args.path) c.run_half.new.side.half.numbers refl (holds One j c.args.one.now c.requires.one c.args.range c.args.path c.stage_digits-digits.result.now c.run_half.new.side.half.numbers c.requires.valid c.requires.range c.requires.below
+    let x = held_half One j c.args.path (digits_of j c.args.path) (end_of c.run_half.new.side).numbers refl (holds One j c.args.one.now c.requires.one c.args.range c.args.path c.stage_digits-digits.result.now (end_of c.run_half.new.side).numbers c.requires.valid c.requires.range c.requires.below
     c.requires.one_root e c.run_half.ensures.after)
     (λ o. both_ways c.is_over.result c.if-is_over.false (c.is_over.ensures.value.1 o)) in
-    let y = held_half Two j c.args.path (digits_of j c.args.path) c.run_half-2.new.side.half.numbers refl (holds Two j c.args.two.now c.requires.two c.args.range c.args.path c.stage_digits-digits.result.now c.run_half-2.new.side.half.numbers c.requires.valid c.requires.range c.requires.below
+    let y = held_half Two j c.args.path (digits_of j c.args.path) (end_of c.run_half-2.new.side).numbers refl (holds Two j c.args.two.now c.requires.two c.args.range c.args.path c.stage_digits-digits.result.now (end_of c.run_half-2.new.side).numbers c.requires.valid c.requires.range c.requires.below
     c.requires.two_root e c.run_half-2.ensures.after)
     (λ o. both_ways c.is_over-2.result c.if-is_over-2.false (c.is_over-2.ensures.value.1 o)) in
-    λ t. sums_both j c.args.path c.run_half.new.side.half.numbers c.run_half-2.new.side.half.numbers x.1 y.1 c.args.sums.now c.add_products.new.sums (c.add_products.ensures.sums t)
+    λ t. sums_both j c.args.path (end_of c.run_half.new.side).numbers (end_of c.run_half-2.new.side).numbers x.1 y.1 c.args.sums.now c.add_products.new.sums (c.add_products.ensures.sums t)
 
 pub returns-clause-steps : goal.returns-clause-steps
 returns-clause-steps g c =
