@@ -9,6 +9,8 @@
 mod hired;
 mod over;
 mod run;
+#[cfg(test)]
+mod tests;
 mod together;
 mod working;
 
