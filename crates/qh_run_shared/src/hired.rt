@@ -9,9 +9,10 @@ use qh_lease::{LEDGER_PARTS, Ledgers, Share, Timer};
 use qh_plan::Job;
 use std::alloc::{AllocError, Global};
 
-/// What a worker has of its own: the right to draw numbers, and a share of the tally.
+/// What a worker has of its own: its number, the right to draw, and a share of the tally.
 #[derive(Drop)]
 pub(crate) struct Hired<N: Ledgers> {
+    pub(crate) number: u32,
     pub(crate) seat: Seat,
     pub(crate) share: Share<N>,
 }
@@ -33,8 +34,13 @@ pub(crate) fn hire<D: Disk, T: Timer, N: Ledgers>(
 {
     let mut hired = Vec::with_capacity(alloc, seats.len())?;
     while let Some(seat) = seats.pop() {
+        let number = hired.len() as u32;
         let share = board.new_share();
-        hired.push(Hired { seat, share })?;
+        hired.push(Hired {
+            number,
+            seat,
+            share,
+        })?;
     }
     Ok(hired)
 }
@@ -48,7 +54,12 @@ pub(crate) fn settle_all<D: Disk, T: Timer, N: Ledgers>(
     ensures board { board.new ≡ record board.old { tally = board.new.tally } }
     ensures out { board.new.tally.out ≡ 0 }
 {
-    while let Some(Hired { seat: _, share }) = hired.pop() {
+    while let Some(worker) = hired.pop() {
+        let Hired {
+            number: _,
+            seat: _,
+            share,
+        } = worker;
         board.settle(share);
     }
 }

@@ -36,7 +36,6 @@ fn work_counted<R: Wait, N: Ledgers, K: Desk<N>, W: WorkerGate, L: Ledger>(
     rt: &R,
     floor: &Floor<'_, W>,
     desk: &K,
-    number: usize,
     hired: &mut Hired<N>,
     blank: Blank,
 )
@@ -57,7 +56,7 @@ fn work_counted<R: Wait, N: Ledgers, K: Desk<N>, W: WorkerGate, L: Ledger>(
         &floor.cache,
         &floor.draw,
         &mut hired.seat,
-        number as u32,
+        hired.number,
         &mut hired.share,
         &mut steps,
     );
@@ -68,14 +67,13 @@ fn work_one<R: Wait, N: Ledgers, K: Desk<N>, W: WorkerGate>(
     rt: &R,
     floor: &Floor<'_, W>,
     desk: &K,
-    number: usize,
     hired: &mut Hired<N>,
 )
     requires job { K.job desk.now ≡ arc_value floor.now.job.now }
     requires seat { hired.old.seat.of ≡ floor.now.draw }
     requires left { ranges (arc_value floor.now.job.now) < hired.old.seat.left }
 {
-    work_counted::<R, N, K, W, Brand>(rt, floor, desk, number, hired, Blank::new(1));
+    work_counted::<R, N, K, W, Brand>(rt, floor, desk, hired, Blank::new(1));
 }
 
 /// Puts a board under the lock of its named run, lets the workers work, and takes it out again.
