@@ -1,4 +1,5 @@
 //! Runs by several workers: over disks in memory, and without a journal.
+use crate::tests::counted::count;
 use crate::tests::meeting::Meeting;
 use crate::{run_kept_shared, run_unkept_shared};
 use qh_disk::MemDisk;
@@ -14,6 +15,7 @@ use std::sync::{Arc, Wait};
 use std::test::Fail;
 use std::thread::Threads;
 
+mod counted;
 mod meeting;
 
 /// One gate across the cut is a prefix gate and one a root gate, so that there are four ranges.
@@ -130,5 +132,15 @@ fn two_workers_compute_at_once(rt: HostRuntime) -> Result<(), Fail> {
     let ran = run(&rt, rt.alloc(), BELL, 2, &[], None, &gate)?;
     assert!(rt; gate.has_met());
     assert!(rt; has_sums(&ran.end, &BELL_SUMS));
+    Ok(())
+}
+
+/// No result is lost or invented under the lock, and the workers take all ranges.
+#[test]
+fn two_workers_take_both_ranges(rt: HostRuntime) -> Result<(), Fail> {
+    let alloc = rt.alloc();
+    let job = Arc::new(alloc, read_job_text(alloc, BELL)?)?;
+    let counts = count(&rt, alloc, &job)?;
+    assert_eq!(rt; (counts.grants, counts.backs, counts.acks), (2, 0, 2));
     Ok(())
 }
