@@ -107,7 +107,7 @@ where
             rt,
             hired.as_mut_slice(),
             count,
-            &|number, worker| { work_one(rt, floor, desk, number, worker) },
+            &|_, worker| { work_one(rt, floor, desk, worker) },
         );
     }
     shared.into_board()
