@@ -68,7 +68,7 @@ serves_on face loans j d e f a b = record {
   goes_on = λ s. lasts_on (GoesOn j s) (face d) (face e) (face f) (a.goes_on s) b.same.runs (b.goes_on s);
 }
 
-went_on : {D : Type 0} (P : D → D → Type 0) (old mid new : Option D) → ((d e f : D) → P d e → P e f → P d f) → Went P old mid → Went P mid new → Went P old new
+pub went_on : {D : Type 0} (P : D → D → Type 0) (old mid new : Option D) → ((d e f : D) → P d e → P e f → P d f) → Went P old mid → Went P mid new → Went P old new
 went_on P None mid new on a b = subst (λ o. Went P o new) a b
 went_on P (Some d) None new on a b = absurd a
 went_on P (Some d) (Some e) None on a b = absurd b
@@ -161,7 +161,7 @@ module _ {D T : Type 0} (face : D → Face) (loans : D → List ℕ) where
       }
 
 -- ---- why it stops
-rose_later : {D : Type 0} (face : D → Face) (loans : D → List ℕ) (j : Job) (old mid new : Option D) → Went (Serves face loans j) old mid → DiskRose face mid new → DiskRose face old new
+pub rose_later : {D : Type 0} (face : D → Face) (loans : D → List ℕ) (j : Job) (old mid new : Option D) → Went (Serves face loans j) old mid → DiskRose face mid new → DiskRose face old new
 rose_later face loans j None mid new went rose = subst (λ o. DiskRose face o new) went rose
 rose_later face loans j (Some d) None new went rose = absurd went
 rose_later face loans j (Some d) (Some e) None went rose = absurd rose

@@ -8,6 +8,7 @@
 mod ended;
 mod over;
 mod ranges;
+mod rest;
 mod run;
 mod stop;
 mod sweep;
@@ -16,4 +17,5 @@ mod tests;
 mod worker;
 
 pub use ended::{Ran, RunEnd};
-pub use run::{run_kept, run_unkept};
+pub use rest::run_rest;
+pub use run::{end_of, run_kept, run_unkept};

@@ -41,7 +41,7 @@ pub(crate) struct Left<D> {
 }
 
 /// The total of the slots, none of which is missing. An Err is want of memory.
-fn answer<D: Disk, T: Timer, N: Ledgers>(
+pub(crate) fn answer<D: Disk, T: Timer, N: Ledgers>(
     alloc: Global,
     board: &Board<'_, D, T, N>,
 ) -> Result<RunEnd, AllocError>

@@ -23,7 +23,7 @@ use std::alloc::Global;
 use std::sync::Arc;
 
 /// The end of a run whose journal is not opened.
-fn end_of(fault: OpenFault) -> RunEnd
+pub fn end_of(fault: OpenFault) -> RunEnd
     ensures { result ≡ end_of fault }
 {
     match fault {

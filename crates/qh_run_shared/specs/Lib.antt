@@ -1,0 +1,1 @@
+-- What contracts cite stands in the crates below.
