@@ -1,3 +1,4 @@
--- The definitions that contracts cite: causes, and how fast numbers grow.
+-- The definitions that contracts cite: causes, how fast numbers grow, and rows of one entry.
 pub mod Faults
 pub mod Bounds
+pub mod Rows

@@ -1,13 +1,17 @@
 //! The whole state of a circuit that is not cut: after every gate, 2^n exact numbers, or the first gate that no longer fits.
 //!
 //! It takes 64 bytes a number once, and goes over the numbers once a gate, less where a gate leaves some as they
-//! are. It scales nothing by 1/√2, reads no text and knows nothing of cuts and paths.
+//! are. By several threads it takes them twice, and each gate makes all numbers anew. It scales nothing by 1/√2, reads
+//! no text and knows nothing of cuts and paths.
 #![tactic(auto)]
 
+mod chunks;
+mod entries;
 mod evolution;
 mod fault;
 mod laws;
 
+pub use chunks::evolve_chunks;
 pub use evolution::evolve;
 pub use fault::UncutFault;
 pub use laws::each_gate_at_most_doubles;

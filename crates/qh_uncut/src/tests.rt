@@ -1,5 +1,5 @@
 //! Vectors that were worked out by hand or by a program of its own, and the first gate that overflows.
-use crate::{UncutFault, evolve};
+use crate::{UncutFault, evolve, evolve_chunks};
 use qh_gates::{Circuit, Gate, Kind, arity};
 use qh_limits::{MAX_QUBITS, MAX_UNCUT_QUBITS};
 use qh_ring::Omega;
@@ -162,5 +162,50 @@ fn overflow(rt: HostRuntime) -> Result<(), Fail> {
     assert!(rt; over.qubits() <= MAX_UNCUT_QUBITS);
     let answer = evolve(rt.alloc(), &over);
     assert!(rt; matches!(answer, Err(UncutFault::Over { gate: 251 })));
+    Ok(())
+}
+
+/// The gates of a chain: `h` on qubit 0, then `cnot` from each qubit to the next.
+const CHAIN: [Row; 12] = [
+    (Kind::H, 0, 0),
+    (Kind::Cnot, 0, 1),
+    (Kind::Cnot, 1, 2),
+    (Kind::Cnot, 2, 3),
+    (Kind::Cnot, 3, 4),
+    (Kind::Cnot, 4, 5),
+    (Kind::Cnot, 5, 6),
+    (Kind::Cnot, 6, 7),
+    (Kind::Cnot, 7, 8),
+    (Kind::Cnot, 8, 9),
+    (Kind::Cnot, 9, 10),
+    (Kind::T, 10, 10),
+];
+
+/// By several threads: of 12 qubits, 11 are all 0 or all 1, and `t` turns the second.
+#[test]
+fn chain_by_threads(rt: HostRuntime) -> Result<(), Fail> {
+    let circuit = circuit_of(&rt, rt.alloc(), 12, &CHAIN)?;
+    assert!(rt; circuit.qubits() <= MAX_UNCUT_QUBITS);
+    let Ok(v) = evolve_chunks(&rt, rt.alloc(), &circuit) else {
+        return Err(Fail::from(AllocError));
+    };
+    assert_eq!(rt; v.len(), 4096);
+    assert_eq!(rt; v.first(), Some(&Omega::ONE));
+    assert_eq!(rt; v.get(2047), Some(&number(0, 1, 0, 0)));
+    let others = v.iter().filter(|z| **z != Omega::ZERO).count();
+    assert_eq!(rt; others, 2);
+    Ok(())
+}
+
+/// By several threads a coefficient of 2^126 ends the evolution at the same gate, and few qubits are done by one.
+#[test]
+fn overflow_by_threads(rt: HostRuntime) -> Result<(), Fail> {
+    let rows = [(Kind::H, 0, 0); 252];
+    for qubits in [1, 12] {
+        let over = circuit_of(&rt, rt.alloc(), qubits, &rows)?;
+        assert!(rt; over.qubits() <= MAX_UNCUT_QUBITS);
+        let answer = evolve_chunks(&rt, rt.alloc(), &over);
+        assert!(rt; matches!(answer, Err(UncutFault::Over { gate: 251 })));
+    }
     Ok(())
 }

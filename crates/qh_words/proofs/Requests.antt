@@ -1,18 +1,51 @@
 -- From the matches to the options that the words ask for.
-use Rattle.std.proofs.Common.{◌≡◌, ◌≢◌, ◌∙◌, ◌&&◌, ◌==◌, Bool, true, false, List, [], ◌∷◌, length, Option, Some, None, refl, sym, ap, subst, codes, arith}
+use Rattle.std.proofs.Common.{◌≡◌, ◌≢◌, ◌∙◌, ◌+◌, ◌<◌, ◌≤◌, ◌&&◌, ◌==◌, ℕ, Bool, true, false, nat_lt, nat_le, is_some, List, [], ◌∷◌, length, Option, Some, None, refl, sym, ap, subst, codes, arith}
 use Rattle.std.specs.Prelude.{if◌then◌else◌}
 use Rattle.std.specs.Option.{IfSome}
+use borrow.Author.Tests.{ltb-true, leb-true}
 use Rattle.std.proofs.lemmas.Bool.{eqb-true, false_from_ne_true}
 use Rattle.std.proofs.lemmas.Option.{cond_some}
 use Rattle.clap.specs.Words.{Text, HasMatchesOf, fault_of}
 use Rattle.clap.specs.declared.parser.matches.ArgMatches.{ArgMatches}
 use Rattle.qh_words.specs.Command.{command, given, is_taken, program, value_in}
-use Rattle.qh_words.specs.Request.{Values, asked, has_cut, has_journal, has_numbers, has_source, options_by, options_of}
+use Rattle.qh_decimal.specs.Decimal.{is_decimal, number_below, value_of}
+use Rattle.qh_words.specs.Request.{HasWorkers, Values, asked, is_number, is_number_from, max_workers, most_lease, number_or, has_cut, has_journal, has_numbers, has_source, options_by, options_of}
 use Rattle.qh_words.specs.Size.{IsGenSize}
 use Rattle.qh_words.specs.declared.options.Options.{Options}
 use Rattle.qh_words.proofs.Simple.{values}
-use Rattle.qh_words.proofs.Sizes.{sized_option}
+use Rattle.qh_words.proofs.Sizes.{both, sized_option}
 
+-- ---- the workers
+below_by : (a b : Bool) (n : ℕ) → is_some (if a && b then Some n else None) ≡ true → b ≡ true
+below_by true true n e = refl
+below_by true false n e = absurd (cc)
+below_by false b n e = absurd (cc)
+
+number_at_most : (most : ℕ) (text : List ℕ) → is_some (number_below (most + 1) text) ≡ true → value_of text ≤ most
+number_at_most most text e =
+    let less : value_of text < most + 1 = ltb-true _ _ (below_by (is_decimal text) (nat_lt (value_of text) (most + 1)) (value_of text) e) in
+    omega (arith, less)
+
+-- an option that is absent gives the least number
+number_between : (least most : ℕ) (value : Option (List ℕ)) → least ≤ most → is_number_from least most value ≡ true
+    → (least ≤ number_or least value) × (number_or least value ≤ most)
+number_between least most None few e = (omega arith, few)
+number_between least most (Some text) few e =
+    let b = both (is_some (number_below (most + 1) text)) (nat_le least (value_of text)) e in
+    (leb-true _ _ b.1, number_at_most most text b.0)
+
+-- the options have 1 to 16 workers
+pub has_workers : (value : Values) (o : Options) → options_by value ≡ Some o → HasWorkers o
+has_workers value o h =
+    let found = cond_some (has_numbers value && has_source value && has_cut value && has_journal value) (asked value) o h in
+    let before_journal = both (has_numbers value && has_source value && has_cut value) (has_journal value) found.0 in
+    let before_cut = both (has_numbers value && has_source value) (has_cut value) before_journal.0 in
+    let numbers = both (has_numbers value) (has_source value) before_cut.0 in
+    let before_lease = both _ (is_number most_lease (value (codes "l"))) numbers.0 in
+    let workers = both _ (is_number_from 1 max_workers (value (codes "t"))) before_lease.0 in
+    subst HasWorkers found.1 (number_between 1 max_workers (value (codes "t")) (omega arith) workers.1)
+
+-- ---- from the matches
 -- no options without a source
 pub no_source : (numbers source cut journal : Bool) (o : Options) → source ≡ false
     → (if numbers && source && cut && journal then Some o else None) ≡ None

@@ -6,7 +6,7 @@ use Rattle.clap.specs.declared.builder.action.ArgAction.TheVariants.{Set, SetTru
 
 -- the letters of the options that have one; each has a value
 abbrev pub letters : List ℕ
-letters = codes "cidkprwovgj"
+letters = codes "cidkprwovgjtl"
 
 -- the option of a letter, as in `-x VALUE`; the matches know it by its letter
 abbrev pub option_rule : ℕ → Rule

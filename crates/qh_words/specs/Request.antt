@@ -1,5 +1,5 @@
 -- What the words ask for, option by option.
-use Rattle.std.specs.Prelude.{ℕ, ◌+◌, ◌&&◌, ◌||◌, Bool, true, false, not}
+use Rattle.std.specs.Prelude.{ℕ, ◌+◌, ◌≤◌, ◌&&◌, ◌||◌, Bool, true, false, not, nat_le}
 use Rattle.std.specs.Prelude.{bytes_eq, List, Option, Some, None, is_some, codes, option_map, option_and_then, if◌then◌else◌}
 use Rattle.std.specs.Option.{option_map_or}
 use Rattle.qh_decimal.specs.Decimal.{number_below, value_of}
@@ -20,16 +20,29 @@ is_number most value = option_map_or (λ text. is_some (number_below (most + 1) 
 abbrev pub number_or : ℕ → Option (List ℕ) → ℕ
 number_or default value = option_map_or value_of value default
 
+-- the option is absent, or its value is a decimal number from `least` to `most`
+abbrev pub is_number_from : ℕ → ℕ → Option (List ℕ) → Bool
+is_number_from least most value = is_number most value && nat_le least (number_or least value)
+
+-- the most workers of a run
+abbrev pub max_workers : ℕ
+max_workers = 16
+
+-- the most seconds of a lease: a day
+abbrev pub most_lease : ℕ
+most_lease = 86400
+
 -- the flag is given
 abbrev pub is_set : Option (List ℕ) → Bool
 is_set value = option_map_or (λ text. bytes_eq text (codes "true")) value false
 
--- each number is one of its range: the greatest time, the prefix and root gates, the prefix value
--- and the verbosity
+-- each number is one of its range: the greatest time, the prefix and root gates, the prefix value,
+-- the verbosity, the workers and the seconds of a lease
 abbrev pub has_numbers : Values → Bool
 has_numbers value = is_number 4294967295 (value (codes "d")) && is_number max_crossing (value (codes "p"))
     && is_number max_crossing (value (codes "r")) && is_number 4294967295 (value (codes "w"))
-    && is_number 4294967295 (value (codes "v"))
+    && is_number 4294967295 (value (codes "v")) && is_number_from 1 max_workers (value (codes "t"))
+    && is_number most_lease (value (codes "l"))
 
 -- a circuit and bitstrings from files, or a generated circuit whose size stands alone
 abbrev pub has_source : Values → Bool
@@ -38,11 +51,11 @@ has_source value = if is_some (value (codes "g"))
     && not (is_some (value (codes "c")) || is_some (value (codes "i")) || is_some (value (codes "d")))
     else is_some (value (codes "c")) && is_some (value (codes "i"))
 
--- prefix gates, root gates, a prefix value, a journal and an emptied one only with a part 1
+-- prefix gates, root gates, a prefix value, a lease, a journal and an emptied one only with a part 1
 abbrev pub has_cut : Values → Bool
 has_cut value = is_some (value (codes "k"))
     || not (is_some (value (codes "p")) || is_some (value (codes "r")) || is_some (value (codes "w"))
-    || is_some (value (codes "j")) || is_set (value (codes "new")))
+    || is_some (value (codes "l")) || is_some (value (codes "j")) || is_set (value (codes "new")))
 
 -- an emptied journal and an old one to fill it from only with a journal
 abbrev pub has_journal : Values → Bool
@@ -62,8 +75,14 @@ asked value = record {
   generated = option_and_then size_of (value (codes "g"));
   journal = value (codes "j");
   fresh = is_set (value (codes "new"));
+  workers = number_or 1 (value (codes "t"));
+  lease = option_map value_of (value (codes "l"));
   from = value (codes "from");
 }
+
+-- a run has 1 to 16 workers
+abbrev pub HasWorkers : Options → Type 0
+HasWorkers o = (1 ≤ o.workers) × (o.workers ≤ max_workers)
 
 abbrev pub options_by : Values → Option Options
 options_by value =

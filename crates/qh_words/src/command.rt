@@ -12,7 +12,7 @@ use clap::{Arg, ArgAction, ArgMatches, Command};
 use std::alloc::{AllocError, Global};
 
 /// The options that have a letter, each of which has a value: the name by which the matches know it, and its letter.
-const OPTIONS: [(&str, char); 11] = [
+const OPTIONS: [(&str, char); 13] = [
     ("c", 'c'),
     ("i", 'i'),
     ("d", 'd'),
@@ -24,6 +24,8 @@ const OPTIONS: [(&str, char); 11] = [
     ("v", 'v'),
     ("g", 'g'),
     ("j", 'j'),
+    ("t", 't'),
+    ("l", 'l'),
 ];
 
 /// The matches of the words, whose first is the program's name.

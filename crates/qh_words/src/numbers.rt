@@ -4,12 +4,18 @@ ghost use Rattle.std.specs.Prelude.{◌≡◌, IfSome, IsTrue, codes, is_some, o
 ghost use Rattle.std.specs.Option.{SomeIff, option_copied};
 ghost use Rattle.qh_decimal.specs.Decimal.{value_of};
 ghost use Rattle.qh_words.specs.Command.{value_in};
-ghost use Rattle.qh_words.specs.Request.{has_numbers, is_number, number_or};
+ghost use Rattle.qh_words.specs.Request.{has_numbers, is_number, is_number_from, max_workers, most_lease, number_or};
 
 use crate::command::value;
 use clap::ArgMatches;
 use qh_decimal::number_of;
 use qh_limits::MAX_CROSSING;
+
+/// The most workers of a run.
+const MAX_WORKERS: u32 = 16;
+
+/// The most seconds of a lease: a day.
+const MOST_LEASE: u32 = 86400;
 
 /// The numbers that the options give or leave to their defaults.
 #[derive(Clone, Copy)]
@@ -18,6 +24,8 @@ pub struct Numbers {
     pub p: u32,
     pub r: u32,
     pub w: Option<u32>,
+    pub workers: u32,
+    pub lease: Option<u64>,
 }
 
 /// The numbers of the options; None where the value of one is no decimal number of its range.
@@ -27,13 +35,24 @@ pub fn read_numbers(matches: &ArgMatches<'_>) -> Option<Numbers>
     ensures p { IfSome result (λ n. n.p ≡ number_or 0 (value_in matches.now (codes "p"))) }
     ensures r { IfSome result (λ n. n.r ≡ number_or 0 (value_in matches.now (codes "r"))) }
     ensures w { IfSome result (λ n. n.w ≡ option_map value_of (value_in matches.now (codes "w"))) }
+    ensures workers { IfSome result (λ n. n.workers ≡ number_or 1 (value_in matches.now (codes "t"))) }
+    ensures lease { IfSome result (λ n. n.lease ≡ option_map value_of (value_in matches.now (codes "l"))) }
 {
     let max_time = read_number(value(matches, "d"), u32::MAX, u32::MAX)?;
     let p = read_number(value(matches, "p"), 0, MAX_CROSSING as u32)?;
     let r = read_number(value(matches, "r"), 0, MAX_CROSSING as u32)?;
-    let w = read_optional(value(matches, "w"))?;
-    read_optional(value(matches, "v"))?;
-    Some(Numbers { max_time, p, r, w })
+    let w = read_optional(value(matches, "w"), u32::MAX)?;
+    read_optional(value(matches, "v"), u32::MAX)?;
+    let workers = read_workers(value(matches, "t"))?;
+    let lease = read_lease(value(matches, "l"))?;
+    Some(Numbers {
+        max_time,
+        p,
+        r,
+        w,
+        workers,
+        lease,
+    })
 }
 
 /// The number of an option of at most `most`, or the default where the option is absent.
@@ -48,13 +67,38 @@ fn read_number(text: Option<&str>, default: u32, most: u32) -> Option<u32>
     if number <= most { Some(number) } else { None }
 }
 
-/// The number of an option, or none where the option is absent.
-fn read_optional(text: Option<&str>) -> Option<Option<u32>>
+/// The number of an option of at most `most`, or none where the option is absent.
+fn read_optional(text: Option<&str>, most: u32) -> Option<Option<u32>>
     ensures { let value = option_copied text.entry in
-        SomeIff result (IsTrue (is_number 4294967295 value)) (option_map value_of value) }
+        SomeIff result (IsTrue (is_number most value)) (option_map value_of value) }
 {
     let Some(text) = text else {
         return Some(None);
     };
-    number_of(text.as_bytes()).map(Some)
+    let number = number_of(text.as_bytes())?;
+    if number <= most {
+        Some(Some(number))
+    } else {
+        None
+    }
+}
+
+/// How many workers run: 1 to 16, and 1 where the option is absent.
+fn read_workers(text: Option<&str>) -> Option<u32>
+    ensures { let value = option_copied text.entry in
+        SomeIff result (IsTrue (is_number_from 1 max_workers value)) (number_or 1 value) }
+{
+    let number = read_number(text, 1, MAX_WORKERS)?;
+    if 1 <= number { Some(number) } else { None }
+}
+
+/// The seconds of a lease, at most a day, or none where the option is absent.
+fn read_lease(text: Option<&str>) -> Option<Option<u64>>
+    ensures { let value = option_copied text.entry in
+        SomeIff result (IsTrue (is_number most_lease value)) (option_map value_of value) }
+{
+    let Some(seconds) = read_optional(text, MOST_LEASE)? else {
+        return Some(None);
+    };
+    Some(Some(u64::from(seconds)))
 }

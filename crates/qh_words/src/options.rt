@@ -28,6 +28,10 @@ pub struct Options {
     pub journal: Option<Text>,
     /// `--new`: the journal is emptied first.
     pub fresh: bool,
+    /// `-t`: how many workers run at once, 1 to 16, by default 1.
+    pub workers: u32,
+    /// `-l`: after how many seconds the range of a worker is due and may be granted again, 0 to 86,400; without it never.
+    pub lease: Option<u64>,
     /// `--from`: the file of a journal of the first format, from which an empty journal is filled.
     pub from: Option<Text>,
 }

@@ -3,7 +3,7 @@
 ghost use Rattle.std.specs.Prelude.{◌≡◌, ◌∷◌, IfOk, IfSome, IsTrue, codes, map, option_and_then, string_bytes};
 ghost use Rattle.std.specs.Option.{SomeIff, option_copied};
 ghost use Rattle.qh_words.specs.Command.{program, value_in};
-ghost use Rattle.qh_words.specs.Request.{has_cut, has_journal, has_source, is_set, options_by, options_of};
+ghost use Rattle.qh_words.specs.Request.{HasWorkers, has_cut, has_journal, has_source, is_set, options_by, options_of};
 ghost use Rattle.qh_words.specs.Size.{IsGenSize, size_of};
 
 use crate::command::{is_set, matches, value};
@@ -20,12 +20,13 @@ use std::alloc::{AllocError, Global};
 /// Usage comes exactly where one of these holds. `clap` refuses the words, as it refuses help, an
 /// unknown option, an option twice and a stray word. A number is no decimal number of its range.
 /// `-c` or `-i` is absent without `-g`. `-g` stands with `-c`, `-i` or `-d`, or its value is no
-/// size. `-p`, `-r`, `-w`, `-j` or `--new` stands without `-k`. `--new` or `--from` stands without
-/// `-j`. Memory is want of memory alone.
+/// size. `-p`, `-r`, `-w`, `-l`, `-j` or `--new` stands without `-k`. `--new` or `--from` stands
+/// without `-j`. Memory is want of memory alone.
 pub fn read_words(alloc: Global, words: &[String]) -> Result<Options, WordsFault>
     ensures asked { IfOk result (λ o. options_of (map string_bytes words.now) ≡ Some o) }
     ensures usage { result ≡ Err WordsFault.Usage → options_of (map string_bytes words.now) ≡ None }
     ensures size { IfOk result (λ o. IfSome o.generated IsGenSize) }
+    ensures workers { IfOk result (λ o. HasWorkers o) }
 {
     let Ok(list) = with_program(alloc, words) else {
         return Err(WordsFault::Memory);
@@ -91,7 +92,7 @@ fn read_source(matches: &ArgMatches<'_>) -> Option<Option<GenSize>>
     Some(Some(size))
 }
 
-/// Prefix gates, root gates, a prefix value, a journal and an emptied one stand only with a part 1.
+/// Prefix gates, root gates, a prefix value, a lease, a journal and an emptied one stand only with a part 1.
 fn has_cut_options(matches: &ArgMatches<'_>) -> bool
     ensures { result ≡ has_cut (value_in matches.now) }
 {
@@ -99,6 +100,7 @@ fn has_cut_options(matches: &ArgMatches<'_>) -> bool
         || !(value(matches, "p").is_some()
             || value(matches, "r").is_some()
             || value(matches, "w").is_some()
+            || value(matches, "l").is_some()
             || value(matches, "j").is_some()
             || is_set(matches, "new"))
 }
@@ -129,6 +131,8 @@ fn with_texts(
       generated = generated;
       journal = value_in matches.now (codes "j");
       fresh = is_set (value_in matches.now (codes "new"));
+      workers = numbers.workers;
+      lease = numbers.lease;
       from = value_in matches.now (codes "from");
     }) }
 {
@@ -144,6 +148,8 @@ fn with_texts(
         generated,
         journal: copied(alloc, value(matches, "j"))?,
         fresh: is_set(matches, "new"),
+        workers: numbers.workers,
+        lease: numbers.lease,
         from: copied(alloc, value(matches, "from"))?,
     })
 }

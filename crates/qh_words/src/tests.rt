@@ -39,8 +39,15 @@ fn refuses_what_is_no_request(rt: HostRuntime) {
         "-c a -i b stray",
         "-c a -i b -x 1",
         "-c a -i b -t 0",
-        "-c a -i b -t 1",
-        "-c a -i b -k 0 -l 1",
+        "-c a -i b -t 17",
+        "-c a -i b -t 4294967297",
+        "-c a -i b -t",
+        "-c a -i b -t 1 -t 1",
+        "-c a -i b -k 0 -t x",
+        "-c a -i b -l 1",
+        "-c a -i b -k 0 -l 86401",
+        "-c a -i b -k 0 -l ",
+        "-c a -i b -k 0 -l 1s",
         "-c a -i b --new",
         "-c a -i b -d -1",
         "-c a -i b -d +1",
@@ -116,6 +123,8 @@ fn reads_defaults(rt: HostRuntime) -> Result<(), Fail> {
         assert_eq!(rt; options.p, 0);
         assert_eq!(rt; options.r, 0);
         assert_eq!(rt; options.w, None);
+        assert_eq!(rt; options.workers, 1);
+        assert_eq!(rt; options.lease, None);
         assert_eq!(rt; options.generated, None);
         assert!(rt; options.journal.is_none() && options.from.is_none() && !options.fresh);
     }
@@ -152,6 +161,21 @@ fn reads_a_journal(rt: HostRuntime) -> Result<(), Fail> {
         assert_eq!(rt; text(&options.journal), journal, "at {line}");
         assert_eq!(rt; options.fresh, fresh, "at {line}");
         assert_eq!(rt; text(&options.from), from, "at {line}");
+    }
+    Ok(())
+}
+
+#[test]
+fn reads_workers_and_a_lease(rt: HostRuntime) -> Result<(), Fail> {
+    for (line, workers, lease) in [
+        ("-c a -i b -t 16", 16, None),
+        ("-c a -i b -t 01", 1, None),
+        ("-c a -i b -k 0 -t8 -l 0", 8, Some(0)),
+        ("-l 86400 -k 0 -g 1,2,2,3", 1, Some(86400)),
+    ] {
+        let options = read(rt.alloc(), line).ok().ok_or("a request")?;
+        assert_eq!(rt; options.workers, workers, "at {line}");
+        assert_eq!(rt; options.lease, lease, "at {line}");
     }
     Ok(())
 }

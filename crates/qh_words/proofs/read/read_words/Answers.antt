@@ -2,7 +2,7 @@ use Rattle.std.proofs.Common.{rules, ◌≡◌, ◌≢◌, ◌∷◌, [], Some, 
 use Rattle.std.proofs.lemmas.Result.{IfOk-weaker}
 use Rattle.clap.specs.Words.{HasMatchesOf, fault_of}
 use Rattle.qh_words.specs.Command.{command, program, value_in}
-use Rattle.qh_words.proofs.Requests.{by_matches, has_size, refused}
+use Rattle.qh_words.proofs.Requests.{by_matches, has_size, has_workers, refused}
 use Rattle.qh_words.specs.declared.fault.WordsFault.TheVariants.{Usage}
 use Rattle.qh_words.proofs.read.read_words.Goals as goal
 
@@ -33,3 +33,6 @@ returns-clause-usage c =
 
 pub returns-clause-size : goal.returns-clause-size
 returns-clause-size c = IfOk-weaker c.read_options.result _ _ (λ o by. has_size (value_in c.in_ok-matches.matches) o by) c.read_options.ensures.asked
+
+pub returns-clause-workers : goal.returns-clause-workers
+returns-clause-workers c = IfOk-weaker c.read_options.result _ _ (λ o by. has_workers (value_in c.in_ok-matches.matches) o by) c.read_options.ensures.asked
