@@ -28,6 +28,7 @@ pub(crate) fn hire<D: Disk, T: Timer, N: Ledgers>(
     requires seats { All (λ s. (s.of ≡ draw.now) × (ranges job.now < s.left)) seats.items }
     requires few { board.old.tally.out + vec_len seats < LEDGER_PARTS }
     ensures board { board.new ≡ record board.old { tally = board.new.tally } }
+    ensures few { board.new.tally.out ≤ board.old.tally.out + vec_len seats }
     ensures out { IfOk result (λ w. board.new.tally.out ≡ board.old.tally.out + vec_len w) }
     ensures count { IfOk result (λ w. vec_len w ≡ vec_len seats) }
     ensures hired { IfOk result (λ w. All (λ h. (h.seat.of ≡ draw.now) × (ranges job.now < h.seat.left)) w.items) }

@@ -74,7 +74,7 @@ where
     requires job { arc_value job.now ≡ board.job }
     requires running { board.course.fault ≡ None }
     requires out { board.tally.out ≡ 0 }
-    ensures shared { WasShared D.face D.loans board result.board }
+    ensures shared { WasShared D.face D.loans board.entry result.board }
     ensures out { result.board.tally.out < LEDGER_PARTS - 1 }
 {
     let Ok((floor, seats)) = lay_out(alloc, job, workers, gate) else {
@@ -117,9 +117,9 @@ where
     requires job { arc_value job.now ≡ board.job }
     requires running { board.course.fault ≡ None }
     requires out { board.tally.out ≡ 0 }
-    ensures shared { WasShared D.face D.loans board result.board }
+    ensures shared { WasShared D.face D.loans board.entry result.board }
     ensures out { result.board.tally.out < LEDGER_PARTS - 1 }
-    ensures finished { NonePasses is_open 0 board.course.leases → result.board ≡ board }
+    ensures finished { NonePasses is_open 0 board.entry.course.leases → result.board ≡ board.entry }
 {
     if board.finished() {
         return Worked { board, ready: true };

@@ -132,8 +132,8 @@ where
     requires job { arc_value floor.now.job.now ≡ board.job }
     requires running { board.course.fault ≡ None }
     requires hired { All (λ h. (h.seat.of ≡ floor.now.draw) × (ranges (arc_value floor.now.job.now) < h.seat.left)) hired.old.items }
-    ensures shared { WasShared D.face D.loans board result }
-    ensures out { result.tally.out ≡ board.tally.out }
+    ensures shared { WasShared D.face D.loans board.entry result }
+    ensures out { result.tally.out ≡ board.entry.tally.out }
     ensures count { vec_len hired.new ≡ vec_len hired.old }
 {
     prove!(board.finished() || !board.finished());
