@@ -1,5 +1,5 @@
 -- A half as contracts see it: its numbers, or none where it is over.
-use Rattle.std.specs.Prelude.{◌≡◌, ℕ, ◌≤◌, ◌^◌, Bool, false, List, length, All, Option, Some, None, IfSome}
+use Rattle.std.specs.Prelude.{◌≡◌, ℕ, ◌≤◌, ◌^◌, List, length, All, Option, Some, None, IfSome}
 use Rattle.qh_limits.specs.Limits.{coefficient_bits, max_part_qubits}
 use Rattle.qh_ring.specs.declared.number.Omega.{Omega}
 use Rattle.qh_ring.specs.Numbers.{IsWithin}
@@ -18,12 +18,6 @@ pub record IsVector (qubits : ℕ) (v : List Omega) : Type 0 where
 pub record IsHalf (h : Half) : Type 0 where
   pub few : h.qubits ≤ max_part_qubits
   pub vector : IfSome h.numbers (IsVector h.qubits)
-
--- what the code keeps: room for 2^qubits numbers, which are within 126 bits unless it is over
-pub record IsKept (qubits : ℕ) (over : Bool) (v : List Omega) : Type 0 where
-  pub few : qubits ≤ max_part_qubits
-  pub len : length v ≡ 2 ^ qubits
-  pub within : over ≡ false → All (IsWithin coefficient_bits) v
 
 -- the numbers after a matrix, none where it was over or one of them comes to 2^126
 abbrev pub AfterMatrix : (ℕ → ℕ → Omega) → List ℕ → Option (List Omega) → Option (List Omega) → Type 0

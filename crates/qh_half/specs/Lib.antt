@@ -1,2 +1,3 @@
 -- The definitions that contracts cite: a half state, and what a matrix makes of it.
 pub mod Halves
+pub mod Forms

@@ -6,7 +6,11 @@ ghost use Rattle.qh_ring.specs.Matrices.{number_in};
 ghost use Rattle.qh_ring.specs.States.{at_index, listed, ground};
 ghost use Rattle.qh_kernel.specs.Rows.{are_single};
 
-use qh_kernel::{Over, apply1, apply2, ground_vector};
+use crate::form::Form;
+use crate::numbers::{answer_of, number_of, wide_room};
+use crate::turns::{turn1, turn2};
+use qh_kernel::Over;
+use qh_narrow::Columns;
 use qh_ring::{Mat2, Mat4, Omega};
 use qh_steps::Steps;
 use std::alloc::{AllocError, Global};
@@ -18,35 +22,38 @@ use std::sync::ledger::Ledger;
 #[derive(Drop)]
 pub struct Half {
     qubits: u32,
-    over: bool,
-    numbers: Vec<Omega>,
+    form: Form,
+    columns: Columns,
+    wide: Vec<Omega>,
 }
 
 impl Model for Half {
-    ghost use Rattle.std.specs.Prelude.{Some, None, if◌then◌else◌};
-    ghost use Rattle.qh_half.specs.Halves.{Half, IsKept};
+    ghost use Rattle.qh_half.specs.Halves.{Half};
+    ghost use Rattle.qh_half.specs.Forms.{held, IsKept};
 
     ghost Value = { Half };
 
-    ghost view = { λ h. record { qubits = h.qubits; numbers = if h.over then None else Some h.numbers.items } };
+    ghost view = { λ h. record { qubits = h.qubits; numbers = held h.form h.columns.numbers h.wide.items } };
 
-    ghost invariant = { λ h. IsKept h.qubits h.over h.numbers.items };
+    ghost invariant = { λ h. IsKept h.qubits h.form h.columns h.wide.items };
 }
 
 impl Half {
     ghost use Rattle.qh_half.specs.Halves.{IsHalf, AfterMatrix};
 
-    /// The half of 1 to 20 qubits with 1 at index 0 and 0 elsewhere. It takes 64 bytes a number.
+    /// The half of 1 to 20 qubits with 1 at index 0 and 0 elsewhere. It takes 96 bytes a number.
     pub fn ground(alloc: Global, qubits: u32) -> Result<Half, AllocError>
         requires some { 1 ≤ qubits }
         requires few { qubits ≤ max_part_qubits }
         ensures { IfOk result (λ h. h ≡ record { qubits = qubits; numbers = Some (listed qubits ground) }) }
     {
-        let numbers = ground_vector(alloc, qubits)?;
+        let columns = Columns::ground(alloc, qubits)?;
+        let wide = wide_room(alloc, qubits)?;
         Ok(Half {
             qubits,
-            over: false,
-            numbers,
+            form: Form::Narrow,
+            columns,
+            wide,
         })
     }
 
@@ -63,7 +70,7 @@ impl Half {
         ensures value { IsTrue result ↔ IsNone self.now.numbers }
         ensures valid { IsHalf self.now }
     {
-        self.over
+        matches!(self.form, Form::Over)
     }
 
     /// The number at an index, of a half that is not over.
@@ -73,7 +80,7 @@ impl Half {
         ensures value { IfSome self.now.numbers (λ v. result ≡ at_index v index) }
         ensures bounded { IsWithin coefficient_bits result }
     {
-        self.numbers[index as usize]
+        number_of(self.form, &self.columns, &self.wide, self.qubits, index)
     }
 
     /// Applies the matrix to qubit `q`, which is one step. It is Over exactly where the half was over already or a new
@@ -87,16 +94,15 @@ impl Half {
         ensures step { steps.new ≡ steps.old + 1 }
     {
         steps.tick();
-        if self.over {
-            return Err(Over);
-        }
-        match apply1(&mut self.numbers, self.qubits, m, q) {
-            Ok(()) => Ok(()),
-            Err(over) => {
-                self.over = true;
-                Err(over)
-            }
-        }
+        self.form = turn1(
+            self.form,
+            &mut self.columns,
+            &mut self.wide,
+            self.qubits,
+            m,
+            q,
+        );
+        answer_of(self.form)
     }
 
     /// Applies the matrix to the distinct qubits `q0` and `q1`, which is one step. Each row of the matrix has at most one
@@ -120,11 +126,16 @@ impl Half {
         ensures step { steps.new ≡ steps.old + 1 }
     {
         steps.tick();
-        if self.over {
-            return Err(Over);
-        }
-        apply2(&mut self.numbers, self.qubits, m, q0, q1);
-        Ok(())
+        turn2(
+            self.form,
+            &mut self.columns,
+            &mut self.wide,
+            self.qubits,
+            m,
+            q0,
+            q1,
+        );
+        answer_of(self.form)
     }
 
     /// Becomes the other half, of as many qubits: its numbers, or its being over.
@@ -132,9 +143,11 @@ impl Half {
         requires { self.old.qubits ≡ other.now.qubits }
         ensures { self.new ≡ other.now }
     {
-        self.over = other.over;
-        if !other.over {
-            self.numbers.copy_from_slice(&other.numbers);
+        match other.form {
+            Form::Narrow => self.columns.copy_from(&other.columns),
+            Form::Wide => self.wide.copy_from_slice(&other.wide),
+            Form::Over => (),
         }
+        self.form = other.form;
     }
 }

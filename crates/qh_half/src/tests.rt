@@ -1,4 +1,4 @@
-//! A Bell pair, the limit on both sides, and a half that stays over until it is copied onto.
+//! A Bell pair, the limit on both sides, and a half that is narrow, wide, over, and narrow again once it is copied onto.
 ghost use Rattle.std.specs.Prelude.{◌≡◌, ◌<◌, IsTrue};
 ghost use Rattle.qh_kernel.specs.Rows.{are_single};
 
@@ -164,6 +164,59 @@ fn run_limit<L: Ledger>(rt: &impl Abort, alloc: Global, blank: Blank) -> Result<
     copy(rt, &mut half, &fits);
     assert_eq!(rt; number(rt, &half, 0), whole(top));
     Ok(())
+}
+
+fn number_of_one(rt: &impl Abort, half: &Half, index: u32) -> Omega {
+    assert!(rt; !half.is_over() && half.qubits() == 1 && index < 2);
+    half.at(index)
+}
+
+/// The last answer of so many Hadamard gates on qubit 0.
+fn hadamards<L: Ledger>(
+    rt: &impl Abort,
+    half: &mut Half,
+    times: u32,
+    steps: &mut Steps<L>,
+) -> Result<(), Over> {
+    let mut answer = Ok(());
+    for _gate in 0..times {
+        answer = apply1(rt, half, &h(), 0, steps);
+    }
+    answer
+}
+
+/// 2k Hadamard gates make of 1 and 0 the numbers 2^k and 0.
+fn run_deep<L: Ledger>(rt: &impl Abort, alloc: Global, blank: Blank) -> Result<(), Fail>
+    requires name { blank.name ≡ L.name }
+    requires parts { blank.parts ≡ L.parts }
+    requires some { 0 < blank.parts }
+{
+    let mut steps = Steps::<L>::new(blank);
+    let mut half = Half::ground(alloc, 1)?;
+    assert_eq!(rt; hadamards(rt, &mut half, 126, &mut steps), Ok(()));
+    assert_eq!(rt; number_of_one(rt, &half, 0), whole(9223372036854775808));
+    assert_eq!(rt; number_of_one(rt, &half, 1), Omega::ZERO);
+    let mut copy_of_wide = Half::ground(alloc, 1)?;
+    copy(rt, &mut copy_of_wide, &half);
+    assert_eq!(rt;
+        number_of_one(rt, &copy_of_wide, 0),
+        whole(9223372036854775808)
+    );
+    assert_eq!(rt; hadamards(rt, &mut half, 125, &mut steps), Ok(()));
+    assert_eq!(rt; hadamards(rt, &mut half, 1, &mut steps), Err(Over));
+    assert_eq!(rt; hadamards(rt, &mut half, 1, &mut steps), Err(Over));
+    let fresh = Half::ground(alloc, 1)?;
+    copy(rt, &mut half, &fresh);
+    assert_eq!(rt; number_of_one(rt, &half, 0), Omega::ONE);
+    assert_eq!(rt; number_of_one(rt, &half, 1), Omega::ZERO);
+    assert_eq!(rt; hadamards(rt, &mut half, 2, &mut steps), Ok(()));
+    assert_eq!(rt; number_of_one(rt, &half, 0), whole(2));
+    Ok(())
+}
+
+#[test]
+fn deep(rt: HostRuntime) -> Result<(), Fail> {
+    run_deep::<Brand>(&rt, rt.alloc(), Blank::new(1))
 }
 
 #[test]

@@ -1,11 +1,13 @@
-use Rattle.std.proofs.Common.{◌∙◌, ap, length}
-use Rattle.qh_ring.specs.States.{ground}
-use Rattle.qh_ring.proofs.ListedLemmas.{length-listed}
+use Rattle.std.proofs.Common.{ap, subst, sym}
+use Rattle.qh_narrow.specs.Columns.{Columns}
+use Rattle.qh_half.specs.Halves.{IsVector}
+use Rattle.qh_half.proofs.FormLemmas.{vector_ground}
 use Rattle.qh_half.proofs.half.Half.ground.Goals as goal
 
 pub invariant_of-result : goal.invariant_of-result
 invariant_of-result c = record {
   few = c.requires.few;
-  len = ap length c.in_ok-numbers.ensures.value ∙ length-listed c.args.qubits ground;
-  within = λ _. c.in_ok-numbers.ensures.within;
+  alike = ap (λ (s : Columns). s.qubits) c.in_ok-columns.ensures;
+  room = c.in_ok-wide.ensures;
+  vector = subst (λ (s : Columns). IsVector c.args.qubits s.numbers) (sym c.in_ok-columns.ensures) (vector_ground c.args.qubits);
 }
