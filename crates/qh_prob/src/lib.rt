@@ -1,0 +1,21 @@
+//! Exact probabilities of a circuit that is not cut: they add up to 1, and each has one line.
+//!
+//! `all_probabilities` costs one evolution and eight products of coefficients for each basis index, and takes 64 bytes
+//! an index for the evolution and 32 for the answer. `least` and the laws take no memory. Nothing is rounded, and
+//! nothing here knows of cuts.
+#![tactic(auto)]
+
+mod form;
+mod laws;
+mod print;
+mod prob;
+
+pub use form::least;
+pub use laws::{
+    one_line_one_probability, probabilities_add_up_to_one, probability_is_the_squared_magnitude,
+};
+pub use print::print_prob;
+pub use prob::{MAX_WEIGHT, Prob, all_probabilities};
+
+#[cfg(test)]
+mod tests;
