@@ -218,9 +218,9 @@ pub taken_job : (o : Options) (circuit bits : Seen) (c : Circuit) (xs : List ℕ
 taken_job o circuit bits c xs a part e j p = record { value = c; indices = xs; input = a; part = part; cut = e; planned = p }
 
 -- a run that is over
-overflows : (o : Options) (circuit bits : Seen) (disk after old : Face) (grants grants_after path : ℕ) (j : Job) → Takes o circuit bits j
-    → IsRun (keeping o) j old disk after grants grants_after (Over path) → OverflowsOn o circuit bits after path
-overflows o circuit bits disk after old grants grants_after path j t r = record {
+overflows : (o : Options) (circuit bits : Seen) (disk after old : Face) (Granted : ℕ → Type 0) (path : ℕ) (j : Job) → Takes o circuit bits j
+    → IsRun (keeping o) j old disk after Granted (Over path) → OverflowsOn o circuit bits after path
+overflows o circuit bits disk after old Granted path j t r = record {
   job = j;
   taken = t;
   slots = r.whole.slots;
@@ -247,30 +247,30 @@ uncut_cause o circuit bits out disk after old old_after c xs a e (WriteFault n) 
 uncut_cause o circuit bits out disk after old old_after c xs a e Memory h = tt
 uncut_cause o circuit bits out disk after old old_after c xs a e (Journal r) h = absurd h
 
-cut_cause : (o : Options) (circuit bits out : Seen) (disk after old old_after : Face) (grants grants_after : ℕ) (c : Circuit) (xs : List ℕ)
+cut_cause : (o : Options) (circuit bits out : Seen) (disk after old old_after : Face) (Granted : ℕ → Type 0) (c : Circuit) (xs : List ℕ)
     → IsInput o.generated o.max_time circuit bits c xs → (part : List ℕ) → o.part ≡ Some part
-    → (stop : Stop) → CutMayStop o part c xs disk after old old_after grants grants_after stop → MayStopBy o circuit bits out disk after old old_after stop
-cut_cause o circuit bits out disk after old old_after g ga c xs a part e Usage h = absurd h.stops
-cut_cause o circuit bits out disk after old old_after g ga c xs a part e (Refused CircuitTooLong) h = absurd h.stops
-cut_cause o circuit bits out disk after old old_after g ga c xs a part e (Refused (CircuitLine line why)) h = absurd h.stops
-cut_cause o circuit bits out disk after old old_after g ga c xs a part e (Refused BitsTooLong) h = absurd h.stops
-cut_cause o circuit bits out disk after old old_after g ga c xs a part e (Refused (BitsLine line why)) h = absurd h.stops
-cut_cause o circuit bits out disk after old old_after g ga c xs a part e (Refused (Plan fault)) h =
+    → (stop : Stop) → CutMayStop o part c xs disk after old old_after Granted stop → MayStopBy o circuit bits out disk after old old_after stop
+cut_cause o circuit bits out disk after old old_after Granted c xs a part e Usage h = absurd h.stops
+cut_cause o circuit bits out disk after old old_after Granted c xs a part e (Refused CircuitTooLong) h = absurd h.stops
+cut_cause o circuit bits out disk after old old_after Granted c xs a part e (Refused (CircuitLine line why)) h = absurd h.stops
+cut_cause o circuit bits out disk after old old_after Granted c xs a part e (Refused BitsTooLong) h = absurd h.stops
+cut_cause o circuit bits out disk after old old_after Granted c xs a part e (Refused (BitsLine line why)) h = absurd h.stops
+cut_cause o circuit bits out disk after old old_after Granted c xs a part e (Refused (Plan fault)) h =
     plan_cause o circuit bits c xs a fault (subst (λ p. PlanRefusesBy p o c xs fault) (sym e) h)
-cut_cause o circuit bits out disk after old old_after g ga c xs a part e (OverflowGate gate) h = absurd h.stops
-cut_cause o circuit bits out disk after old old_after g ga c xs a part e (OverflowPath path) h =
-    overflows o circuit bits disk after old g ga path h.job (taken_job o circuit bits c xs a part e h.job h.planned) h.stops
-cut_cause o circuit bits out disk after old old_after g ga c xs a part e (ReadFault input) h = absurd h.stops
-cut_cause o circuit bits out disk after old old_after g ga c xs a part e DiskFault h = ((h.job, taken_job o circuit bits c xs a part e h.job h.planned), h.stops)
-cut_cause o circuit bits out disk after old old_after g ga c xs a part e (WriteFault n) h = absurd h.stops
-cut_cause o circuit bits out disk after old old_after g ga c xs a part e Memory h = tt
-cut_cause o circuit bits out disk after old old_after g ga c xs a part e (Journal r) h = (h.job, taken_job o circuit bits c xs a part e h.job h.planned, h.stops.0)
+cut_cause o circuit bits out disk after old old_after Granted c xs a part e (OverflowGate gate) h = absurd h.stops
+cut_cause o circuit bits out disk after old old_after Granted c xs a part e (OverflowPath path) h =
+    overflows o circuit bits disk after old Granted path h.job (taken_job o circuit bits c xs a part e h.job h.planned) h.stops
+cut_cause o circuit bits out disk after old old_after Granted c xs a part e (ReadFault input) h = absurd h.stops
+cut_cause o circuit bits out disk after old old_after Granted c xs a part e DiskFault h = ((h.job, taken_job o circuit bits c xs a part e h.job h.planned), h.stops)
+cut_cause o circuit bits out disk after old old_after Granted c xs a part e (WriteFault n) h = absurd h.stops
+cut_cause o circuit bits out disk after old old_after Granted c xs a part e Memory h = tt
+cut_cause o circuit bits out disk after old old_after Granted c xs a part e (Journal r) h = (h.job, taken_job o circuit bits c xs a part e h.job h.planned, h.stops.0)
 
-pub answer_cause : (o : Options) (circuit bits out : Seen) (disk after old old_after : Face) (grants grants_after : ℕ) (c : Circuit) (xs : List ℕ)
+pub answer_cause : (o : Options) (circuit bits out : Seen) (disk after old old_after : Face) (Granted : ℕ → Type 0) (c : Circuit) (xs : List ℕ)
     → IsInput o.generated o.max_time circuit bits c xs → (part : Option (List ℕ)) → o.part ≡ part
-    → (stop : Stop) → AnswerMayStop part o c xs disk after old old_after grants grants_after stop → MayStopBy o circuit bits out disk after old old_after stop
-answer_cause o circuit bits out disk after old old_after g ga c xs a None e stop h = uncut_cause o circuit bits out disk after old old_after c xs a e stop h
-answer_cause o circuit bits out disk after old old_after g ga c xs a (Some part) e stop h = cut_cause o circuit bits out disk after old old_after g ga c xs a part e stop h
+    → (stop : Stop) → AnswerMayStop part o c xs disk after old old_after Granted stop → MayStopBy o circuit bits out disk after old old_after stop
+answer_cause o circuit bits out disk after old old_after Granted c xs a None e stop h = uncut_cause o circuit bits out disk after old old_after c xs a e stop h
+answer_cause o circuit bits out disk after old old_after Granted c xs a (Some part) e stop h = cut_cause o circuit bits out disk after old old_after Granted c xs a part e stop h
 
 -- ---- how a request that is refused may stop
 reading_circuit : (circuit bits : Seen) (r : Refusal) → Rises circuit → FilesReading circuit bits r

@@ -25,7 +25,7 @@ use Rattle.qh_top.specs.Inputs.{HasInput}
 use Rattle.qh_top.specs.Jobs.{Asks, Takes, keeping}
 use Rattle.qh_top.specs.Answer.{IsJobText}
 use Rattle.qh_top.specs.Refusals.{PlanRefusesBy, Refuses, FilesReading, ReadingBy, Reading, SourceRises, RefusesAll, JournalRefuses, DisksRise}
-use Rattle.qh_top.specs.Request.{Prints, PrintsAsked, RunIsWhole, EndsWhole, EndsEarly, FaultCame, FaultFirst, Answers, IsRun}
+use Rattle.qh_top.specs.Request.{Prints, PrintsAsked, RunIsWhole, EndsWholeBy, EndsEarly, FaultCame, FaultFirst, Answers, IsRun}
 use Rattle.qh_top.specs.Parts.{Moves, Ended}
 use Rattle.qh_top.specs.Stops.{status_of, MayStopBy, MayStop, Stops}
 use Rattle.qh_top.specs.declared.stop.Refusal.{Refusal}
@@ -184,16 +184,16 @@ module _ (o : Options) (circuit bits out : Seen) (disk after old old_after : Fac
           (subst (λ i. JournalRefuses (λ known P. IfSome known P) (keeping o) i disk old r) (same_job asked o circuit bits m.0 j m.1 a) m.2))
 
 -- ---- the whole run of the job that the words ask for
-module _ (asked : Option Options) (circuit bits out : Seen) (disk after old : Face) (grants grants_after status : ℕ)
-    (ended : IfSome asked (λ o. Ended o circuit bits out disk after old grants grants_after status)) where
-  ended_by : (o : Options) → asked ≡ Some o → Ended o circuit bits out disk after old grants grants_after status
-  ended_by o e = subst (λ a. IfSome a (λ o. Ended o circuit bits out disk after old grants grants_after status)) e ended
+module _ (asked : Option Options) (circuit bits out : Seen) (disk after old : Face) (Granted : ℕ → Type 0) (status : ℕ)
+    (ended : IfSome asked (λ o. Ended o circuit bits out disk after old Granted status)) where
+  ended_by : (o : Options) → asked ≡ Some o → Ended o circuit bits out disk after old Granted status
+  ended_by o e = subst (λ a. IfSome a (λ o. Ended o circuit bits out disk after old Granted status)) e ended
 
-  pub whole_run : RunIsWhole status → IfSome asked (λ o. IsSome o.part → EndsWhole o circuit bits out disk after old grants grants_after status)
+  pub whole_run : RunIsWhole status → IfSome asked (λ o. IsSome o.part → EndsWholeBy o circuit bits out disk after old Granted status)
   whole_run done = by asked ended
     where
-      by : (a : Option Options) → IfSome a (λ o. Ended o circuit bits out disk after old grants grants_after status)
-          → IfSome a (λ o. IsSome o.part → EndsWhole o circuit bits out disk after old grants grants_after status)
+      by : (a : Option Options) → IfSome a (λ o. Ended o circuit bits out disk after old Granted status)
+          → IfSome a (λ o. IsSome o.part → EndsWholeBy o circuit bits out disk after old Granted status)
       by None e = tt
       by (Some o) e = e.whole done
 
@@ -203,7 +203,7 @@ module _ (asked : Option Options) (circuit bits out : Seen) (disk after old : Fa
   -- of the job that is asked for
   pub record Whole (o : Options) (j : Job) : Type 0 where
     pub verdict : Verdict
-    pub run : IsRun (keeping o) j old disk after grants grants_after verdict
+    pub run : IsRun (keeping o) j old disk after Granted verdict
     pub exact : BeginsTrue (keeping o) j disk old → PrintsAsked o j out status
 
   pub whole_asked : (o : Options) (j : Job) → Asks asked circuit.before bits.before o j → RunIsWhole status → Whole o j
@@ -245,10 +245,10 @@ pub no_first_fault : (o : Options) (circuit bits out : Seen) (disk after old old
 no_first_fault o circuit bits out disk after old old_after status none (inl f) = none (inl f.1)
 no_first_fault o circuit bits out disk after old old_after status none (inr f) = none (inr (inr f.1))
 
-module _ (asked : Option Options) (circuit bits out : Seen) (disk after old old_after : Face) (grants grants_after status : ℕ) (Told : List ℕ → Type 0)
+module _ (asked : Option Options) (circuit bits out : Seen) (disk after old old_after : Face) (Granted : ℕ → Type 0) (status : ℕ) (Told : List ℕ → Type 0)
     (printed : status ≡ 0 → IsSomeAnd asked (λ o. Prints o circuit bits out after (λ text. text)))
     (stopped : status ≢ 0 → Stops status (MayStop asked circuit bits out disk after old old_after) Told)
-    (ended : IfSome asked (λ o. Ended o circuit bits out disk after old grants grants_after status)) where
+    (ended : IfSome asked (λ o. Ended o circuit bits out disk after old Granted status)) where
   how_here : (o : Options) → asked ≡ Some o → How o circuit bits out disk after old old_after status
   how_here = how asked circuit bits out disk after old old_after status Told printed stopped
 
@@ -271,7 +271,7 @@ module _ (asked : Option Options) (circuit bits out : Seen) (disk after old old_
       → (status ≡ 8) ⊎ ((status ≡ 7) ⊎ FaultFirst o circuit bits disk after old old_after status)
   journal_refused o j r a h =
       journal_refused_by o circuit bits out disk after old old_after status asked j (how_here o a.request_is) a
-      (λ done. (whole_asked asked circuit bits out disk after old grants grants_after status ended o j a done).run.accepted r h)
+      (λ done. (whole_asked asked circuit bits out disk after old Granted status ended o j a done).run.accepted r h)
 
   none_of : (o : Options) → asked ≡ Some o → ¬ FaultCame asked circuit bits out disk after old old_after → ¬ FaultCame (Some o) circuit bits out disk after old old_after
   none_of o e none = subst (λ a. ¬ FaultCame a circuit bits out disk after old old_after) e none

@@ -160,9 +160,9 @@ asked_text g j sums text is e h =
     let same : sums ≡ map (λ s. asked j (index_of s)) (job_strings j) = sums_are_asked j sums is e ∙ values_named j.circuit.qubits (asked j) j.bits is.bits_below in
     record { none = none_over j sums e; values = subst (λ zs. IsValuesText g j (job_strings j) zs text) same (values_text g j sums text h) }
 
-cut_named : (o : Options) (disk after old : Face) (grants grants_after : ℕ) (part : List ℕ) (c : Circuit) (xs text : List ℕ) → All (λ x. x < 2 ^ c.qubits) xs
-    → IsCutText o disk after old grants grants_after part c xs text → IsCutAnswer o after part c (map (bits_text c.qubits) xs) text
-cut_named o disk after old grants grants_after part c xs text below h =
+cut_named : (o : Options) (disk after old : Face) (Granted : ℕ → Type 0) (part : List ℕ) (c : Circuit) (xs text : List ℕ) → All (λ x. x < 2 ^ c.qubits) xs
+    → IsCutText o disk after old Granted part c xs text → IsCutAnswer o after part c (map (bits_text c.qubits) xs) text
+cut_named o disk after old Granted part c xs text below h =
     let d : h.job.circuit ≡ c = ap (λ (j : Job). j.circuit) h.planned.job in
     let b : h.job.bits ≡ xs = ap (λ (j : Job). j.bits) h.planned.job in
     let ss : job_strings h.job ≡ map (bits_text c.qubits) xs = ap (λ (v : Circuit). map (bits_text v.qubits) h.job.bits) d ∙ ap (map (bits_text c.qubits)) b in
@@ -181,12 +181,12 @@ cut_named o disk after old grants grants_after part c xs text below h =
           (asked_text o.generated h.job h.sums text h.valid (sym (h.run.unkept (not_kept o none))) h.text_is);
     }
 
-pub named_by : (part : Option (List ℕ)) (o : Options) (disk after old : Face) (grants grants_after : ℕ) (c : Circuit) (xs : List ℕ) (ss : List (List ℕ)) (text : List ℕ)
+pub named_by : (part : Option (List ℕ)) (o : Options) (disk after old : Face) (Granted : ℕ → Type 0) (c : Circuit) (xs : List ℕ) (ss : List (List ℕ)) (text : List ℕ)
     → ss ≡ map (bits_text c.qubits) xs → All (λ x. x < 2 ^ c.qubits) xs
-    → IsIndexedBy part o disk after old grants grants_after c xs text → IsAnswerBy part o after c ss text
-named_by part o disk after old grants grants_after c xs ss text e below h = subst (λ ss. IsAnswerBy part o after c ss text) (sym e) (spelled part h)
+    → IsIndexedBy part o disk after old Granted c xs text → IsAnswerBy part o after c ss text
+named_by part o disk after old Granted c xs ss text e below h = subst (λ ss. IsAnswerBy part o after c ss text) (sym e) (spelled part h)
   where
-    spelled : (part : Option (List ℕ)) → IsIndexedBy part o disk after old grants grants_after c xs text → IsAnswerBy part o after c (map (bits_text c.qubits) xs) text
+    spelled : (part : Option (List ℕ)) → IsIndexedBy part o disk after old Granted c xs text → IsAnswerBy part o after c (map (bits_text c.qubits) xs) text
     spelled None h = record {
       narrow = h.narrow;
       never = h.never;
@@ -195,4 +195,4 @@ named_by part o disk after old grants grants_after c xs ss text e below h = subs
           (lines_named c.qubits (total_weight c.gates) xs (map (uncut c.gates) xs) h.lines h.are_lines);
       text_is = h.text_is;
     }
-    spelled (Some part) h = cut_named o disk after old grants grants_after part c xs text below h
+    spelled (Some part) h = cut_named o disk after old Granted part c xs text below h

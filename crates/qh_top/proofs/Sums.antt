@@ -64,15 +64,24 @@ unfolding run_value
 values_total j = total_same j (slot_at (values j)) (λ i. Some (range_value j i)) (λ r low. value_at j r low)
 
 -- at most all ranges are bare
-few_bare : (j : Job) (s : Slots) (before now : ℕ) → RoseBy (ranges j) before now → RoseBy (count_bare j s) before now
-few_bare j s before now rose =
+few_bare : (j : Job) (s : Slots) → count_bare j s ≤ ranges j
+few_bare j s =
     let few = count_by-le-length (λ r. is_none (slot_at s r)) (range_with_len 0 (ranges j)) in
     let count = length-range_with_len 0 (ranges j) in
-    omega (arith, few, count, rose)
+    omega (arith, few, count)
 
-unkept_run_by : (fresh taking : Bool) (j : Job) (old disk : Face) (grants grants_after : ℕ) (v : Verdict) → v ≡ run_value j → RoseBy (ranges j) grants grants_after
-    → IsRun (record { kept = false; fresh = fresh; taking = taking }) j old disk disk grants grants_after v
-unkept_run_by fresh taking j old disk grants grants_after v e rose = record {
+-- a count that rose by so many rose by fewer
+pub rose_by_fewer : (m before now : ℕ) → RoseBy m before now → (n : ℕ) → n ≤ m → RoseBy n before now
+rose_by_fewer m before now rose n few = omega (arith, rose, few)
+
+-- nothing is said of grants
+pub any_granted : {X : Type 0} (o : Option X) → IfSome o (λ x. Unit {0})
+any_granted None = tt
+any_granted (Some x) = tt
+
+unkept_run_by : (fresh taking : Bool) (j : Job) (old disk : Face) (Granted : ℕ → Type 0) (v : Verdict) → v ≡ run_value j → ((n : ℕ) → n ≤ ranges j → Granted n)
+    → IsRun (record { kept = false; fresh = fresh; taking = taking }) j old disk disk Granted v
+unkept_run_by fresh taking j old disk Granted v e rose = record {
   whole = record {
     safe = λ kept. absurd (false≢true kept);
     recorded = (values_extend j, values_full j);
@@ -83,7 +92,7 @@ unkept_run_by fresh taking j old disk grants grants_after v e rose = record {
     exact = λ begins. e;
   };
   accepted = by;
-  granted = few_bare j (nones j) grants grants_after rose;
+  granted = rose (count_bare j (nones j)) (few_bare j (nones j));
   unkept = λ off. e;
 }
   where
@@ -91,13 +100,13 @@ unkept_run_by fresh taking j old disk grants grants_after v e rose = record {
     by (OfJournal r) h = false≢true h.0
     by (OfOld r) h = false≢true h.0
 
-pub unkept_run : {D : Type 0} (face : D → Face) (disk after : D) → after ≡ disk → (k : Keeping) (j : Job) (old : Face) (grants grants_after : ℕ) (a : Option Verdict) (v : Verdict)
-    → k.kept ≡ false → a ≡ Some v → IfSome a (λ answer. answer ≡ run_value j) → (IsSome a → RoseBy (ranges j) grants grants_after)
-    → IsRun k j old (face disk) (face after) grants grants_after v
-unkept_run face disk after same k j old grants grants_after a v off e value rose =
-    subst (λ d. IsRun k j old (face disk) (face d) grants grants_after v) (sym same)
-    (subst (λ b. IsRun (record { kept = b; fresh = k.fresh; taking = k.taking }) j old (face disk) (face disk) grants grants_after v) (sym off)
-    (unkept_run_by k.fresh k.taking j old (face disk) grants grants_after v
+pub unkept_run : {D : Type 0} (face : D → Face) (disk after : D) → after ≡ disk → (k : Keeping) (j : Job) (old : Face) (Granted : ℕ → Type 0) (a : Option Verdict) (v : Verdict)
+    → k.kept ≡ false → a ≡ Some v → IfSome a (λ answer. answer ≡ run_value j) → (IsSome a → (n : ℕ) → n ≤ ranges j → Granted n)
+    → IsRun k j old (face disk) (face after) Granted v
+unkept_run face disk after same k j old Granted a v off e value rose =
+    subst (λ d. IsRun k j old (face disk) (face d) Granted v) (sym same)
+    (subst (λ b. IsRun (record { kept = b; fresh = k.fresh; taking = k.taking }) j old (face disk) (face disk) Granted v) (sym off)
+    (unkept_run_by k.fresh k.taking j old (face disk) Granted v
     (subst (λ a. IfSome a (λ answer. answer ≡ run_value j)) e value) (rose (ap is_some e))))
 
 -- ---- with a journal
@@ -137,10 +146,10 @@ whole_not_refused k j old disk after v is kept keeps whole r h = by k.fresh refl
         subst (λ o. IfSome o (λ s1. whole.slots ≡ s1)) end whole.ended ∙ refused_slots j t.0 r (sym (ap (first_refusal j) same) ∙ t.2.0) in
         bare j (subst (λ s. IsSome (slot_at s 0)) slots (whole.full 0 (some_range j is)))
 
-kept_run_by : (k : Keeping) (j : Job) (old disk after : Face) (grants grants_after : ℕ) (a : Option Verdict) (v : Verdict) → IsJob j → k.kept ≡ true → a ≡ Some v
+kept_run_by : (k : Keeping) (j : Job) (old disk after : Face) (Granted : ℕ → Type 0) (a : Option Verdict) (v : Verdict) → IsJob j → k.kept ≡ true → a ≡ Some v
     → KeepsJournal k j old disk after → IfSome a (IsWhole k j old disk after) → (IsSome a → AcceptsOld k j old disk)
-    → (IsSome a → IfSome (slots_before k j disk old) (λ s0. RoseBy (count_bare j s0) grants grants_after)) → IsRun k j old disk after grants grants_after v
-kept_run_by k j old disk after grants grants_after a v is kept e keeps whole accepted granted =
+    → (IsSome a → IfSome (slots_before k j disk old) (λ s0. Granted (count_bare j s0))) → IsRun k j old disk after Granted v
+kept_run_by k j old disk after Granted a v is kept e keeps whole accepted granted =
     let all = subst (λ a. IfSome a (IsWhole k j old disk after)) e whole in
     record {
       whole = all;
@@ -153,11 +162,11 @@ kept_run_by k j old disk after grants grants_after a v is kept e keeps whole acc
     by all (OfJournal r) h = whole_not_refused k j old disk after v is kept keeps all r h.1
     by all (OfOld r) h = accepted (ap is_some e) (attach_of r) h.1
 
-pub kept_run : (k l : Keeping) → k ≡ l → (j : Job) (old disk after : Face) (grants grants_after : ℕ) (a : Option Verdict) (v : Verdict) → IsJob j → k.kept ≡ true → a ≡ Some v
+pub kept_run : (k l : Keeping) → k ≡ l → (j : Job) (old disk after : Face) (Granted : ℕ → Type 0) (a : Option Verdict) (v : Verdict) → IsJob j → k.kept ≡ true → a ≡ Some v
     → KeepsJournal k j old disk after → IfSome a (IsWhole k j old disk after) → (IsSome a → AcceptsOld k j old disk)
-    → (IsSome a → IfSome (slots_before k j disk old) (λ s0. RoseBy (count_bare j s0) grants grants_after)) → IsRun l j old disk after grants grants_after v
-kept_run k l same j old disk after grants grants_after a v is kept e keeps whole accepted granted =
-    subst (λ k. IsRun k j old disk after grants grants_after v) same (kept_run_by k j old disk after grants grants_after a v is kept e keeps whole accepted granted)
+    → (IsSome a → IfSome (slots_before k j disk old) (λ s0. Granted (count_bare j s0))) → IsRun l j old disk after Granted v
+kept_run k l same j old disk after Granted a v is kept e keeps whole accepted granted =
+    subst (λ k. IsRun k j old disk after Granted v) same (kept_run_by k j old disk after Granted a v is kept e keeps whole accepted granted)
 
 pub not_kept : (o : Options) → o.journal ≡ None → (keeping o).kept ≡ false
 not_kept o e = ap (is_some {T = List ℕ}) e
@@ -189,36 +198,36 @@ no_end : (end : RunEnd) → IsSome (answer_of end) ⊎ (end ≡ RunMemory) → a
 no_end end (inl some) none not = false≢true (sym (ap is_some none) ∙ some)
 no_end end (inr e) none not = not e
 
-module _ (k : Keeping) (j : Job) (old old_after disk after : Face) (grants grants_after : ℕ) where
+module _ (k : Keeping) (j : Job) (old old_after disk after : Face) (Granted : ℕ → Type 0) where
   pub unkept_by : (end : RunEnd) (stop : Stop) → StopsWith end stop → IsSome (answer_of end) ⊎ (end ≡ RunMemory)
-      → ((path : ℕ) → answer_of end ≡ Some (PathOver path) → IsRun k j old disk after grants grants_after (PathOver path))
-      → JobMayStop k j disk after old old_after grants grants_after stop
+      → ((path : ℕ) → answer_of end ≡ Some (PathOver path) → IsRun k j old disk after Granted (PathOver path))
+      → JobMayStop k j disk after old old_after Granted stop
   unkept_by (Sums sums) stop with_stop ends over = absurd with_stop
-  unkept_by (RunOver path) stop with_stop ends over = subst (JobMayStop k j disk after old old_after grants grants_after) (sym with_stop) (over path refl)
+  unkept_by (RunOver path) stop with_stop ends over = subst (JobMayStop k j disk after old old_after Granted) (sym with_stop) (over path refl)
   unkept_by Disk stop with_stop ends over = absurd (no_end Disk ends refl (λ e. cc))
   unkept_by OldDisk stop with_stop ends over = absurd (no_end OldDisk ends refl (λ e. cc))
   unkept_by (RunRefused why) stop with_stop ends over = absurd (no_end (RunRefused why) ends refl (λ e. cc))
   unkept_by (OldRefused why) stop with_stop ends over = absurd (no_end (OldRefused why) ends refl (λ e. cc))
-  unkept_by RunMemory stop with_stop ends over = subst (JobMayStop k j disk after old old_after grants grants_after) (sym with_stop) tt
+  unkept_by RunMemory stop with_stop ends over = subst (JobMayStop k j disk after old old_after Granted) (sym with_stop) tt
 
   kept_by : (end : RunEnd) (stop : Stop) → k.kept ≡ true → StopsWith end stop → MayEnd k j old old_after disk after end
-      → ((path : ℕ) → answer_of end ≡ Some (PathOver path) → IsRun k j old disk after grants grants_after (PathOver path))
-      → JobMayStop k j disk after old old_after grants grants_after stop
+      → ((path : ℕ) → answer_of end ≡ Some (PathOver path) → IsRun k j old disk after Granted (PathOver path))
+      → JobMayStop k j disk after old old_after Granted stop
   kept_by (Sums sums) stop kept with_stop may over = absurd with_stop
-  kept_by (RunOver path) stop kept with_stop may over = subst (JobMayStop k j disk after old old_after grants grants_after) (sym with_stop) (over path refl)
-  kept_by Disk stop kept with_stop may over = subst (JobMayStop k j disk after old old_after grants grants_after) (sym with_stop) (kept, inl may)
-  kept_by OldDisk stop kept with_stop may over = subst (JobMayStop k j disk after old old_after grants grants_after) (sym with_stop) (kept, inr may)
-  kept_by (RunRefused why) stop kept with_stop may over = subst (JobMayStop k j disk after old old_after grants grants_after) (sym with_stop) ((kept, may.0), may.1)
-  kept_by (OldRefused why) stop kept with_stop may over = subst (JobMayStop k j disk after old old_after grants grants_after) (sym with_stop) ((kept, may.0), may.1)
-  kept_by RunMemory stop kept with_stop may over = subst (JobMayStop k j disk after old old_after grants grants_after) (sym with_stop) tt
+  kept_by (RunOver path) stop kept with_stop may over = subst (JobMayStop k j disk after old old_after Granted) (sym with_stop) (over path refl)
+  kept_by Disk stop kept with_stop may over = subst (JobMayStop k j disk after old old_after Granted) (sym with_stop) (kept, inl may)
+  kept_by OldDisk stop kept with_stop may over = subst (JobMayStop k j disk after old old_after Granted) (sym with_stop) (kept, inr may)
+  kept_by (RunRefused why) stop kept with_stop may over = subst (JobMayStop k j disk after old old_after Granted) (sym with_stop) ((kept, may.0), may.1)
+  kept_by (OldRefused why) stop kept with_stop may over = subst (JobMayStop k j disk after old old_after Granted) (sym with_stop) ((kept, may.0), may.1)
+  kept_by RunMemory stop kept with_stop may over = subst (JobMayStop k j disk after old old_after Granted) (sym with_stop) tt
 
-pub kept_stop : (k l : Keeping) → k ≡ l → (j : Job) (old old_after disk after : Face) (grants grants_after : ℕ) (end : RunEnd) (stop : Stop) → k.kept ≡ true
+pub kept_stop : (k l : Keeping) → k ≡ l → (j : Job) (old old_after disk after : Face) (Granted : ℕ → Type 0) (end : RunEnd) (stop : Stop) → k.kept ≡ true
     → StopsWith end stop → MayEnd k j old old_after disk after end
-    → ((path : ℕ) → answer_of end ≡ Some (PathOver path) → IsRun k j old disk after grants grants_after (PathOver path))
-    → JobMayStop l j disk after old old_after grants grants_after stop
-kept_stop k l same j old old_after disk after grants grants_after end stop kept with_stop may over =
-    subst (λ k. JobMayStop k j disk after old old_after grants grants_after stop) same
-    (kept_by k j old old_after disk after grants grants_after end stop kept with_stop may over)
+    → ((path : ℕ) → answer_of end ≡ Some (PathOver path) → IsRun k j old disk after Granted (PathOver path))
+    → JobMayStop l j disk after old old_after Granted stop
+kept_stop k l same j old old_after disk after Granted end stop kept with_stop may over =
+    subst (λ k. JobMayStop k j disk after old old_after Granted stop) same
+    (kept_by k j old old_after disk after Granted end stop kept with_stop may over)
 
 -- ---- what holds of each value, and of each error
 pub ok_of : {V E : Type 0} (r : Result V E) (P Q : V → Type 0) → IfOk r P → ((v : V) → P v → Q v) → IfOk r Q

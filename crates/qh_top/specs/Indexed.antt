@@ -28,14 +28,14 @@ pub record IsSumsText (generated : Option GenSize) (j : Job) (sums : List Omega)
   pub text_is : text ≡ head_text generated j.circuit (crossing j) (ranges j) ++ lines
 
 -- the sums of the whole run of the planned job
-pub record IsCutText (o : Options) (disk after old : Face) (grants grants_after : ℕ) (part : List ℕ) (c : Circuit) (xs text : List ℕ) : Type 0 where
+pub record IsCutText (o : Options) (disk after old : Face) (Granted : ℕ → Type 0) (part : List ℕ) (c : Circuit) (xs text : List ℕ) : Type 0 where
   pub job : Job
   pub planned : IsPlannedJob o part c xs job
   pub valid : IsJob job
   pub sums : List Omega
-  pub run : IsRun (keeping o) job old disk after grants grants_after (Sum sums)
+  pub run : IsRun (keeping o) job old disk after Granted (Sum sums)
   pub text_is : IsSumsText o.generated job sums text
 
-abbrev pub IsIndexedBy : Option (List ℕ) → Options → Face → Face → Face → ℕ → ℕ → Circuit → List ℕ → List ℕ → Type 0
-IsIndexedBy None o disk after old grants grants_after c xs text = IsUncutText o.generated c xs text
-IsIndexedBy (Some part) o disk after old grants grants_after c xs text = IsCutText o disk after old grants grants_after part c xs text
+abbrev pub IsIndexedBy : Option (List ℕ) → Options → Face → Face → Face → (ℕ → Type 0) → Circuit → List ℕ → List ℕ → Type 0
+IsIndexedBy None o disk after old Granted c xs text = IsUncutText o.generated c xs text
+IsIndexedBy (Some part) o disk after old Granted c xs text = IsCutText o disk after old Granted part c xs text

@@ -20,7 +20,7 @@ use Rattle.qh_top.specs.Seen.{Seen, Rises}
 use Rattle.qh_top.specs.Inputs.{IsCircuitFile, IsFaultyCircuit, AreFaultyBits}
 use Rattle.qh_top.specs.Jobs.{IsPlannedJob, Takes, keeping}
 use Rattle.qh_top.specs.Refusals.{PlanRefusesBy, JournalRefuses, DisksRise}
-use Rattle.qh_top.specs.Request.{IsRun, RunIsWhole, EndsWhole}
+use Rattle.qh_top.specs.Request.{IsRun, RunIsWhole, EndsWholeBy}
 use Rattle.qh_top.specs.declared.stop.Refusal.TheVariants.{CircuitTooLong, CircuitLine, BitsTooLong, BitsLine, Plan}
 use Rattle.qh_run.specs.declared.ended.RunEnd.{RunEnd}
 use Rattle.qh_run.specs.declared.ended.RunEnd.TheVariants.{Sums, Over as PathOver, Disk, OldDisk, Refused as RunRefused, OldRefused, Memory as RunMemory}
@@ -75,13 +75,13 @@ PlanMayStop P Memory = Unit {0}
 PlanMayStop P _ = ⊥
 
 -- one that runs a job: its answer is over, or a disk failed, or a journal is refused, which leaves it as it was where it is not to be emptied
-abbrev pub JobMayStop : Keeping → Job → Face → Face → Face → Face → ℕ → ℕ → Stop → Type 0
-JobMayStop k j disk after old old_after grants grants_after (OverflowPath path) = IsRun k j old disk after grants grants_after (Over path)
-JobMayStop k j disk after old old_after grants grants_after DiskFault = DisksRise k disk after old old_after
-JobMayStop k j disk after old old_after grants grants_after Memory = Unit {0}
-JobMayStop k j disk after old old_after grants grants_after (Journal r) =
+abbrev pub JobMayStop : Keeping → Job → Face → Face → Face → Face → (ℕ → Type 0) → Stop → Type 0
+JobMayStop k j disk after old old_after Granted (OverflowPath path) = IsRun k j old disk after Granted (Over path)
+JobMayStop k j disk after old old_after Granted DiskFault = DisksRise k disk after old old_after
+JobMayStop k j disk after old old_after Granted Memory = Unit {0}
+JobMayStop k j disk after old old_after Granted (Journal r) =
     JournalRefuses (λ known P. IfSome known P) k j disk old r × (k.fresh ≡ false → IsUnwritten disk after)
-JobMayStop k j disk after old old_after grants grants_after _ = ⊥
+JobMayStop k j disk after old old_after Granted _ = ⊥
 
 -- the stop that the end of a run is
 abbrev pub StopsWith : RunEnd → Stop → Type 0
@@ -94,20 +94,20 @@ StopsWith (OldRefused why) stop = stop ≡ Journal (OfOld why)
 StopsWith RunMemory stop = stop ≡ Memory
 
 -- one that plans a job and runs it
-pub record PlannedMayStop (o : Options) (part : List ℕ) (c : Circuit) (xs : List ℕ) (disk after old old_after : Face) (grants grants_after : ℕ) (stop : Stop) : Type 0 where
+pub record PlannedMayStop (o : Options) (part : List ℕ) (c : Circuit) (xs : List ℕ) (disk after old old_after : Face) (Granted : ℕ → Type 0) (stop : Stop) : Type 0 where
   pub job : Job
   pub planned : IsPlannedJob o part c xs job
-  pub stops : JobMayStop (keeping o) job disk after old old_after grants grants_after stop
+  pub stops : JobMayStop (keeping o) job disk after old old_after Granted stop
 
-abbrev pub CutMayStop : Options → List ℕ → Circuit → List ℕ → Face → Face → Face → Face → ℕ → ℕ → Stop → Type 0
-CutMayStop o part c xs disk after old old_after grants grants_after (Refused (Plan fault)) = PlanRefusesBy (Some part) o c xs fault
-CutMayStop o part c xs disk after old old_after grants grants_after Memory = Unit {0}
-CutMayStop o part c xs disk after old old_after grants grants_after stop = PlannedMayStop o part c xs disk after old old_after grants grants_after stop
+abbrev pub CutMayStop : Options → List ℕ → Circuit → List ℕ → Face → Face → Face → Face → (ℕ → Type 0) → Stop → Type 0
+CutMayStop o part c xs disk after old old_after Granted (Refused (Plan fault)) = PlanRefusesBy (Some part) o c xs fault
+CutMayStop o part c xs disk after old old_after Granted Memory = Unit {0}
+CutMayStop o part c xs disk after old old_after Granted stop = PlannedMayStop o part c xs disk after old old_after Granted stop
 
 -- one that answers of a circuit and basis indices
-abbrev pub AnswerMayStop : Option (List ℕ) → Options → Circuit → List ℕ → Face → Face → Face → Face → ℕ → ℕ → Stop → Type 0
-AnswerMayStop None o c xs disk after old old_after grants grants_after stop = UncutMayStop c stop
-AnswerMayStop (Some part) o c xs disk after old old_after grants grants_after stop = CutMayStop o part c xs disk after old old_after grants grants_after stop
+abbrev pub AnswerMayStop : Option (List ℕ) → Options → Circuit → List ℕ → Face → Face → Face → Face → (ℕ → Type 0) → Stop → Type 0
+AnswerMayStop None o c xs disk after old old_after Granted stop = UncutMayStop c stop
+AnswerMayStop (Some part) o c xs disk after old old_after Granted stop = CutMayStop o part c xs disk after old old_after Granted stop
 
 -- sums of a job that can be printed: one for each bitstring, each within 126 bits
 pub record IsPrintable (j : Job) (sums : List Omega) : Type 0 where
@@ -137,6 +137,6 @@ pub record Moves (o : Options) (circuit bits : Seen) (disk after old old_after :
   pub moves : JobMoves (keeping o) job disk after old old_after
 
 -- what a call with this status left beside its text and its stop: of a job, a whole run or none; and no write where a journal was refused
-pub record Ended (o : Options) (circuit bits out : Seen) (disk after old : Face) (grants grants_after status : ℕ) : Type 0 where
-  pub whole : RunIsWhole status → IsSome o.part → EndsWhole o circuit bits out disk after old grants grants_after status
+pub record Ended (o : Options) (circuit bits out : Seen) (disk after old : Face) (Granted : ℕ → Type 0) (status : ℕ) : Type 0 where
+  pub whole : RunIsWhole status → IsSome o.part → EndsWholeBy o circuit bits out disk after old Granted status
   pub unwritten : status ≡ 8 → o.fresh ≡ false → IsUnwritten disk after

@@ -72,20 +72,34 @@ pub record OverflowsOn (o : Options) (circuit bits : Seen) (after : Face) (path 
   pub unkept : o.journal ≡ None → run_value job ≡ Over path
 
 -- ---- the whole run of a job
--- The whole run is recorded, with this total: no journal was refused, and each range without a slot was granted. Without a journal the total is the value of the run.
-pub record IsRun (k : Keeping) (j : Job) (old disk after : Face) (grants grants_after : ℕ) (verdict : Verdict) : Type 0 where
+-- The whole run is recorded, with this total: no journal was refused. What Granted says of a number of granted ranges holds of those that had no slot. Without a
+-- journal the total is the value of the run.
+pub record IsRun (k : Keeping) (j : Job) (old disk after : Face) (Granted : ℕ → Type 0) (verdict : Verdict) : Type 0 where
   pub whole : IsWhole k j old disk after verdict
   pub accepted : (r : JournalRefusal) → ¬ JournalRefuses (λ known P. IsSomeAnd known P) k j disk old r
-  pub granted : IfSome (slots_before k j disk old) (λ s0. RoseBy (count_bare j s0) grants grants_after)
+  pub granted : IfSome (slots_before k j disk old) (λ s0. Granted (count_bare j s0))
   pub unkept : k.kept ≡ false → verdict ≡ run_value j
 
 -- The call came to a job and made its whole run; what went out is what that job asks for where the slots at entry were true.
-pub record EndsWhole (o : Options) (circuit bits out : Seen) (disk after old : Face) (grants grants_after status : ℕ) : Type 0 where
+pub record EndsWholeBy (o : Options) (circuit bits out : Seen) (disk after old : Face) (Granted : ℕ → Type 0) (status : ℕ) : Type 0 where
   pub job : Job
   pub taken : Takes o circuit bits job
   pub verdict : Verdict
-  pub run : IsRun (keeping o) job old disk after grants grants_after verdict
+  pub run : IsRun (keeping o) job old disk after Granted verdict
   pub exact : BeginsTrue (keeping o) job disk old → PrintsAsked o job out status
+
+-- the same of a timer that heard of each grant: this many counts before the call, and after it
+abbrev pub EndsWhole : Options → Seen → Seen → Seen → Face → Face → Face → ℕ → ℕ → ℕ → Type 0
+EndsWhole o circuit bits out disk after old grants grants_after status =
+    EndsWholeBy o circuit bits out disk after old (λ n. RoseBy n grants grants_after) status
+
+-- the timer heard of so many grants
+abbrev pub HeardOf : ℕ → ℕ → ℕ → Type 0
+HeardOf before after n = RoseBy n before after
+
+-- nothing is said of a number of granted ranges
+abbrev pub AnyGrants : ℕ → Type 0
+AnyGrants n = Unit {0}
 
 -- ---- faults, and what is answered without one
 -- a count of what words call on rose: of a source that they read, the output or a disk; words that are no request call on nothing

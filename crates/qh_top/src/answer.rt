@@ -1,14 +1,15 @@
 //! The text that a request asks for.
 ghost use Rattle.std.specs.Prelude.{◌≡◌, ◌≢◌, ◌≤◌, ◌<◌, ◌++◌, ◌⊎◌, [], false, Some, None, decimal, IfOk, IfErr, OnOk, IsSomeAnd, length, map, All};
 ghost use Rattle.qh_ring.specs.Numbers.{IsWithin};
-ghost use Rattle.qh_ring.specs.States.{at_index};
+ghost use Rattle.qh_ring.specs.States.{at_index, listed};
 ghost use Rattle.qh_limits.specs.Limits.{max_uncut_qubits, coefficient_bits};
 ghost use Rattle.qh_gates.specs.Circuits.{total_weight};
 ghost use Rattle.qh_gates.specs.Evolution.{uncut, NeverOver};
+ghost use Rattle.qh_uncut.specs.Faults.{IsCause};
 ghost use Rattle.qh_plan.specs.Plans.{AreBits};
 ghost use Rattle.qh_top.specs.Answer.{gen_line, head_text};
 ghost use Rattle.qh_top.specs.Indexed.{IsUncutText, IsIndexedBy};
-ghost use Rattle.qh_top.specs.Request.{EndsEarly};
+ghost use Rattle.qh_top.specs.Request.{EndsEarly, HeardOf};
 ghost use Rattle.qh_top.specs.Stops.{status_of};
 ghost use Rattle.qh_top.specs.Parts.{UncutMayStop, AnswerMayStop, AnswerMoves};
 
@@ -39,27 +40,20 @@ fn values_at(alloc: Global, numbers: &[Omega], indices: &[u64]) -> Result<Vec<Om
     Ok(values)
 }
 
-/// The amplitudes of an uncut circuit at these indices.
-fn uncut_values(alloc: Global, circuit: &Circuit, indices: &[u64]) -> Result<Vec<Omega>, Stop>
-    requires { AreBits circuit.now.qubits indices.now }
-    ensures narrow { OnOk result (circuit.now.qubits ≤ max_uncut_qubits) }
-    ensures never { OnOk result (NeverOver circuit.now) }
+/// The amplitudes of an uncut circuit at these indices, of its state.
+fn state_values(
+    alloc: Global,
+    circuit: &Circuit,
+    state: &[Omega],
+    indices: &[u64],
+) -> Result<Vec<Omega>, AllocError>
+    requires bits { AreBits circuit.now.qubits indices.now }
+    requires exact { state.now ≡ listed circuit.now.qubits (uncut circuit.now.gates) }
+    requires bounded { All (IsWithin coefficient_bits) state.now }
     ensures values { IfOk result (λ v. v.items ≡ map (uncut circuit.now.gates) indices.now) }
     ensures within { IfOk result (λ v. All (IsWithin coefficient_bits) v.items) }
-    ensures cause { IfErr result (UncutMayStop circuit.now) }
 {
-    if let Err(fault) = check_uncut(circuit) {
-        return Err(Stop::of_plan(fault));
-    }
-    let state = match evolve(alloc, circuit) {
-        Ok(state) => state,
-        Err(UncutFault::Over { gate }) => return Err(Stop::OverflowGate(gate)),
-        Err(UncutFault::Memory) => return Err(Stop::Memory),
-    };
-    match values_at(alloc, &state, indices) {
-        Ok(values) => Ok(values),
-        Err(_) => Err(Stop::Memory),
-    }
+    values_at(alloc, state, indices)
 }
 
 /// The first line of a generated circuit.
@@ -108,6 +102,37 @@ pub(crate) fn with_head(
     }
 }
 
+/// The text of a circuit that is not cut, of the state with which its evolution ended.
+pub(crate) fn state_text(
+    alloc: Global,
+    generated: Option<GenSize>,
+    circuit: &Circuit,
+    indices: &[u64],
+    state: Result<Vec<Omega>, UncutFault>,
+) -> Result<Vec<u8>, Stop>
+    requires bits { AreBits circuit.now.qubits indices.now }
+    requires narrow { circuit.now.qubits ≤ max_uncut_qubits }
+    requires exact { IfOk state (λ v. v.items ≡ listed circuit.now.qubits (uncut circuit.now.gates)) }
+    requires bounded { IfOk state (λ v. All (IsWithin coefficient_bits) v.items) }
+    requires never { OnOk state (NeverOver circuit.now) }
+    requires cause { IfErr state (IsCause circuit.now) }
+    ensures answer { IfOk result (λ text. IsUncutText generated circuit.now indices.now text.items) }
+    ensures cause { IfErr result (UncutMayStop circuit.now) }
+{
+    let state = match state {
+        Ok(state) => state,
+        Err(UncutFault::Over { gate }) => return Err(Stop::OverflowGate(gate)),
+        Err(UncutFault::Memory) => return Err(Stop::Memory),
+    };
+    let Ok(values) = state_values(alloc, circuit, &state, indices) else {
+        return Err(Stop::Memory);
+    };
+    let Ok(lines) = lines_of(alloc, circuit.qubits(), circuit.weight(), indices, &values) else {
+        return Err(Stop::Memory);
+    };
+    with_head(alloc, generated, circuit, 0, 0, &lines)
+}
+
 /// The text of a circuit that is not cut.
 fn uncut_answer(
     alloc: Global,
@@ -119,14 +144,11 @@ fn uncut_answer(
     ensures answer { IfOk result (λ text. IsUncutText generated circuit.now indices.now text.items) }
     ensures cause { IfErr result (UncutMayStop circuit.now) }
 {
-    let values = match uncut_values(alloc, circuit, indices) {
-        Ok(values) => values,
-        Err(stop) => return Err(stop),
-    };
-    let Ok(lines) = lines_of(alloc, circuit.qubits(), circuit.weight(), indices, &values) else {
-        return Err(Stop::Memory);
-    };
-    with_head(alloc, generated, circuit, 0, 0, &lines)
+    if let Err(fault) = check_uncut(circuit) {
+        return Err(Stop::of_plan(fault));
+    }
+    let state = evolve(alloc, circuit);
+    state_text(alloc, generated, circuit, indices, state)
 }
 
 /// The text that the options ask for of a circuit at these indices. Only a circuit that is cut calls on a disk.
@@ -140,8 +162,8 @@ pub(crate) fn answer<D: Disk, F: Disk, T: Timer>(
     timer: &mut T,
 ) -> Result<Vec<u8>, Stop>
     requires { AreBits circuit.qubits indices.items }
-    ensures answer { IfOk result (λ text. IsIndexedBy options.now.part options.now (D.face disk.old) (D.face disk.new) (F.face old.old) (T.granted_count timer.old) (T.granted_count timer.new) circuit indices.items text.items) }
-    ensures cause { IfErr result (AnswerMayStop options.now.part options.now circuit indices.items (D.face disk.old) (D.face disk.new) (F.face old.old) (F.face old.new) (T.granted_count timer.old) (T.granted_count timer.new)) }
+    ensures answer { IfOk result (λ text. IsIndexedBy options.now.part options.now (D.face disk.old) (D.face disk.new) (F.face old.old) (HeardOf (T.granted_count timer.old) (T.granted_count timer.new)) circuit indices.items text.items) }
+    ensures cause { IfErr result (AnswerMayStop options.now.part options.now circuit indices.items (D.face disk.old) (D.face disk.new) (F.face old.old) (F.face old.new) (HeardOf (T.granted_count timer.old) (T.granted_count timer.new))) }
     ensures moves { ((disk.new ≡ disk.old) × (old.new ≡ old.old)) ⊎ AnswerMoves options.now.part options.now circuit indices.items (D.face disk.old) (D.face disk.new) (F.face old.old) (F.face old.new) }
     ensures alone { IfErr result (λ stop. EndsEarly (status_of stop) → (disk.new ≡ disk.old) × (old.new ≡ old.old)) }
     ensures old_unasked { (options.now.from ≡ None) ⊎ ((options.now.fresh ≡ false) × IsSomeAnd (D.face disk.old).content (λ f. f ≢ [])) → old.new ≡ old.old }

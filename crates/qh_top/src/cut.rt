@@ -6,7 +6,7 @@ ghost use Rattle.qh_plan.specs.declared.verdict.Verdict.TheVariants.{Sum};
 ghost use Rattle.qh_top.specs.Jobs.{IsPlannedJob, keeping};
 ghost use Rattle.qh_top.specs.Indexed.{IsSumsText, IsCutText};
 ghost use Rattle.qh_top.specs.Refusals.{PlanRefusesBy};
-ghost use Rattle.qh_top.specs.Request.{EndsEarly, IsRun};
+ghost use Rattle.qh_top.specs.Request.{EndsEarly, IsRun, HeardOf};
 ghost use Rattle.qh_top.specs.Stops.{status_of};
 ghost use Rattle.qh_top.specs.Parts.{PlanMayStop, JobMayStop, CutMayStop, JobMoves, PlannedMoves, StopsWith, IsPrintable};
 
@@ -24,7 +24,7 @@ use std::alloc::Global;
 use std::sync::Arc;
 
 /// The job that the options plan over a part 1.
-fn planned(
+pub(crate) fn planned(
     alloc: Global,
     options: &Options,
     part: &str,
@@ -50,13 +50,13 @@ fn planned(
 
 /// How a job's run ended, and its disk.
 #[derive(Drop)]
-struct JobEnd<D> {
-    disk: D,
-    answer: Result<(), Stop>,
+pub(crate) struct JobEnd<D> {
+    pub(crate) disk: D,
+    pub(crate) answer: Result<(), Stop>,
 }
 
 /// Puts the sums of a run in `sums`, or answers the stop that its end is.
-fn sums_into(end: RunEnd, sums: &mut Vec<Omega>) -> Result<(), Stop>
+pub(crate) fn sums_into(end: RunEnd, sums: &mut Vec<Omega>) -> Result<(), Stop>
     ensures sums { OnOk result (end ≡ RunEnd.Sums sums.new) }
     ensures stop { IfErr result (StopsWith end) }
 {
@@ -84,9 +84,9 @@ fn run_job<D: Disk, F: Disk, T: Timer>(
     sums: &mut Vec<Omega>,
 ) -> JobEnd<D>
     requires { IsPlanned (arc_value job) }
-    ensures run { OnOk result.answer (IsRun (keeping options.now) (arc_value job) (F.face old.old) (D.face disk) (D.face result.disk) (T.granted_count timer.old) (T.granted_count timer.new) (Sum sums.new.items)) }
+    ensures run { OnOk result.answer (IsRun (keeping options.now) (arc_value job) (F.face old.old) (D.face disk) (D.face result.disk) (HeardOf (T.granted_count timer.old) (T.granted_count timer.new)) (Sum sums.new.items)) }
     ensures printable { OnOk result.answer (IsPrintable (arc_value job) sums.new.items) }
-    ensures cause { IfErr result.answer (JobMayStop (keeping options.now) (arc_value job) (D.face disk) (D.face result.disk) (F.face old.old) (F.face old.new) (T.granted_count timer.old) (T.granted_count timer.new)) }
+    ensures cause { IfErr result.answer (JobMayStop (keeping options.now) (arc_value job) (D.face disk) (D.face result.disk) (F.face old.old) (F.face old.new) (HeardOf (T.granted_count timer.old) (T.granted_count timer.new))) }
     ensures moves { ((result.disk ≡ disk) × (old.new ≡ old.old)) ⊎ JobMoves (keeping options.now) (arc_value job) (D.face disk) (D.face result.disk) (F.face old.old) (F.face old.new) }
     ensures old_unasked { (options.now.from ≡ None) ⊎ ((options.now.fresh ≡ false) × IsSomeAnd (D.face disk).content (λ f. f ≢ [])) → old.new ≡ old.old }
     ensures loans { D.loans result.disk ≡ D.loans disk }
@@ -117,9 +117,9 @@ fn job_sums<D: Disk, F: Disk, T: Timer>(
     timer: &mut T,
 ) -> Result<Vec<Omega>, Stop>
     requires { IsPlanned (arc_value job) }
-    ensures run { IfOk result (λ sums. IsRun (keeping options.now) (arc_value job) (F.face old.old) (D.face disk.old) (D.face disk.new) (T.granted_count timer.old) (T.granted_count timer.new) (Sum sums.items)) }
+    ensures run { IfOk result (λ sums. IsRun (keeping options.now) (arc_value job) (F.face old.old) (D.face disk.old) (D.face disk.new) (HeardOf (T.granted_count timer.old) (T.granted_count timer.new)) (Sum sums.items)) }
     ensures printable { IfOk result (λ sums. IsPrintable (arc_value job) sums.items) }
-    ensures cause { IfErr result (JobMayStop (keeping options.now) (arc_value job) (D.face disk.old) (D.face disk.new) (F.face old.old) (F.face old.new) (T.granted_count timer.old) (T.granted_count timer.new)) }
+    ensures cause { IfErr result (JobMayStop (keeping options.now) (arc_value job) (D.face disk.old) (D.face disk.new) (F.face old.old) (F.face old.new) (HeardOf (T.granted_count timer.old) (T.granted_count timer.new))) }
     ensures moves { ((disk.new ≡ disk.old) × (old.new ≡ old.old)) ⊎ JobMoves (keeping options.now) (arc_value job) (D.face disk.old) (D.face disk.new) (F.face old.old) (F.face old.new) }
     ensures old_unasked { (options.now.from ≡ None) ⊎ ((options.now.fresh ≡ false) × IsSomeAnd (D.face disk.old).content (λ f. f ≢ [])) → old.new ≡ old.old }
     ensures loans { D.loans disk.new ≡ D.loans disk.old }
@@ -134,7 +134,7 @@ fn job_sums<D: Disk, F: Disk, T: Timer>(
 }
 
 /// The lines of these sums, behind the first line where the circuit is generated.
-fn sums_text(
+pub(crate) fn sums_text(
     alloc: Global,
     generated: Option<GenSize>,
     job: &Job,
@@ -171,8 +171,8 @@ pub(crate) fn cut_answer<D: Disk, F: Disk, T: Timer>(
     timer: &mut T,
 ) -> Result<Vec<u8>, Stop>
     requires { AreBits circuit.qubits indices.items }
-    ensures answer { IfOk result (λ text. IsCutText options.now (D.face disk.old) (D.face disk.new) (F.face old.old) (T.granted_count timer.old) (T.granted_count timer.new) part.now circuit indices.items text.items) }
-    ensures cause { IfErr result (CutMayStop options.now part.now circuit indices.items (D.face disk.old) (D.face disk.new) (F.face old.old) (F.face old.new) (T.granted_count timer.old) (T.granted_count timer.new)) }
+    ensures answer { IfOk result (λ text. IsCutText options.now (D.face disk.old) (D.face disk.new) (F.face old.old) (HeardOf (T.granted_count timer.old) (T.granted_count timer.new)) part.now circuit indices.items text.items) }
+    ensures cause { IfErr result (CutMayStop options.now part.now circuit indices.items (D.face disk.old) (D.face disk.new) (F.face old.old) (F.face old.new) (HeardOf (T.granted_count timer.old) (T.granted_count timer.new))) }
     ensures moves { ((disk.new ≡ disk.old) × (old.new ≡ old.old)) ⊎ PlannedMoves options.now part.now circuit indices.items (D.face disk.old) (D.face disk.new) (F.face old.old) (F.face old.new) }
     ensures alone { IfErr result (λ stop. EndsEarly (status_of stop) → (disk.new ≡ disk.old) × (old.new ≡ old.old)) }
     ensures old_unasked { (options.now.from ≡ None) ⊎ ((options.now.fresh ≡ false) × IsSomeAnd (D.face disk.old).content (λ f. f ≢ [])) → old.new ≡ old.old }

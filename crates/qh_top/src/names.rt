@@ -8,7 +8,8 @@ use qh_words::{Text, WordsFault, read_words};
 use std::alloc::Global;
 
 /// The files that the words name: those of the circuit and the bitstrings unless these are generated, that of the output
-/// unless it is standard output, and those of the journal and of the old journal where the words ask for them.
+/// unless it is standard output, and those of the journal and of the old journal where the words ask for them. With them the
+/// seconds of a lease, and how many workers run.
 #[derive(Drop)]
 pub struct Names {
     pub circuit: Option<Text>,
@@ -16,6 +17,8 @@ pub struct Names {
     pub out: Option<Text>,
     pub journal: Option<Text>,
     pub old: Option<Text>,
+    pub lease: Option<u64>,
+    pub workers: u32,
 }
 
 /// The files that the words name. Usage comes only where the words are no request, and Ok only where they are one.
@@ -30,5 +33,7 @@ pub fn file_names(alloc: Global, words: &[String]) -> Result<Names, WordsFault>
         out: options.out,
         journal: options.journal,
         old: options.from,
+        lease: options.lease,
+        workers: options.workers,
     })
 }

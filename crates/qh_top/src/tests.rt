@@ -1,4 +1,6 @@
 //! Worked rows: each has the words, the two texts, the calls that fail, and the status, output and message that follow.
+mod workers;
+
 use crate::qsimh_alone;
 use qh_disk::MemDisk;
 use qh_io::{MemSink, MemSource};
@@ -315,6 +317,8 @@ fn usage(rt: HostRuntime) -> Result<(), Fail> {
         misused(&["-c", "a", "-i", "b", "-c", "a"]),
         misused(&["-c", "a", "-i", "b", "-p", "1"]),
         misused(&["-c", "a", "-i", "b", "-k", "0", "-t", "17"]),
+        misused(&["-c", "a", "-i", "b", "-t", "0"]),
+        misused(&["-c", "a", "-i", "b", "-l", "1"]),
         misused(&["-c", "a", "-i", "b", "-g", "1,1,1,1"]),
         misused(&["-c", "a"]),
         misused(&["--help"]),

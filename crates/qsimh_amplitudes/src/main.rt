@@ -8,7 +8,8 @@ mod named;
 use named::{Adapters, named_files};
 use qh_io::ErrSink;
 use qh_lease::ClockTimer;
-use qh_top::qsimh_alone;
+use qh_top::{Ran, qsimh};
+use qh_workers::FreeGate;
 use std::alloc::AllocError;
 use std::env::Env;
 use std::process::ExitCode;
@@ -47,20 +48,24 @@ fn main(rt: HostRuntime) -> ExitCode {
         mut circuit,
         mut bits,
         mut out,
-        mut journal,
+        journal,
         mut old,
+        lease,
     } = files;
     let mut err = ErrSink::new(&rt);
-    let mut timer = ClockTimer::new(&rt, rt.alloc(), None);
-    ExitCode::from(qsimh_alone(
+    let mut timer = ClockTimer::new(&rt, rt.alloc(), lease);
+    let Ran { status, disk: _ } = qsimh(
+        &rt,
         rt.alloc(),
         &words,
         &mut circuit,
         &mut bits,
         &mut out,
         &mut err,
-        &mut journal,
+        journal,
         &mut old,
         &mut timer,
-    ))
+        &FreeGate,
+    );
+    ExitCode::from(status)
 }

@@ -1,4 +1,4 @@
-//! The files that the words of the command line name, as sources, a sink and disks.
+//! The files that the words of the command line name, as sources, a sink and disks, and the seconds of their lease.
 ghost use Rattle.std.specs.Prelude.{◌≡◌, IfOk, map};
 ghost use Rattle.std.specs.Option.{is_some, option_and_then};
 ghost use Rattle.std.specs.String.{string_bytes};
@@ -12,7 +12,7 @@ use std::fs::File;
 use std::rt::Files;
 
 /// What the call reads and writes: the file of the circuit, that of the bitstrings, that of the output or standard output, that of
-/// the journal, and that of the old journal.
+/// the journal, and that of the old journal. With them the seconds of a lease.
 #[derive(Drop)]
 pub struct Adapters<'r, R: Files<File = File> + Print + Sync> {
     pub circuit: FileSource<'r, R>,
@@ -20,6 +20,7 @@ pub struct Adapters<'r, R: Files<File = File> + Print + Sync> {
     pub out: FileSink<'r, R>,
     pub journal: FileDisk<'r, R>,
     pub old: FileDisk<'r, R>,
+    pub lease: Option<u64>,
 }
 
 /// The files that the words name, and none where the words are no request. An Err is want of memory.
@@ -29,6 +30,7 @@ fn names_of(alloc: Global, words: &[String]) -> Result<Names, AllocError>
     ensures out { IfOk result (λ names. names.out ≡ option_and_then (λ o. o.out) (options_of (map string_bytes words.now))) }
     ensures journal { IfOk result (λ names. names.journal ≡ option_and_then (λ o. o.journal) (options_of (map string_bytes words.now))) }
     ensures old { IfOk result (λ names. names.old ≡ option_and_then (λ o. o.from) (options_of (map string_bytes words.now))) }
+    ensures lease { IfOk result (λ names. names.lease ≡ option_and_then (λ o. o.lease) (options_of (map string_bytes words.now))) }
 {
     match file_names(alloc, words) {
         Ok(names) => Ok(names),
@@ -38,6 +40,8 @@ fn names_of(alloc: Global, words: &[String]) -> Result<Names, AllocError>
             out: None,
             journal: None,
             old: None,
+            lease: None,
+            workers: 1,
         }),
         Err(WordsFault::Memory) => Err(AllocError),
     }
@@ -55,6 +59,7 @@ pub fn named_files<'r, R: Files<File = File> + Print + Sync>(
     ensures out { IfOk result (λ files. files.out.path ≡ option_and_then (λ o. o.out) (options_of (map string_bytes words.now))) }
     ensures journal { IfOk result (λ files. files.journal.named ≡ is_some (option_and_then (λ o. o.journal) (options_of (map string_bytes words.now)))) }
     ensures old { IfOk result (λ files. files.old.named ≡ is_some (option_and_then (λ o. o.from) (options_of (map string_bytes words.now)))) }
+    ensures lease { IfOk result (λ files. files.lease ≡ option_and_then (λ o. o.lease) (options_of (map string_bytes words.now))) }
 {
     let names = names_of(alloc, words)?;
     Ok(Adapters {
@@ -63,5 +68,6 @@ pub fn named_files<'r, R: Files<File = File> + Print + Sync>(
         out: FileSink::new(rt, names.out.map(Text::into_string)),
         journal: FileDisk::new(rt, names.journal.map(Text::into_string)),
         old: FileDisk::new(rt, names.old.map(Text::into_string)),
+        lease: names.lease,
     })
 }

@@ -1,3 +1,4 @@
+use Rattle.qh_counts.specs.Counts.{RoseBy}
 use Rattle.qh_top.specs.Seen.{seen}
 use Rattle.qh_top.proofs.Journals.{keeps_asked, stays_stable, unwritten_refused, old_is_read, disk_runs, old_runs, reached_job}
 use Rattle.qh_top.proofs.Ends.{whole_run, whole_asked, exact_asked, unwritten_by, usage_answer, only_usage, refused_asked, words_refused, journal_refused, completes}
@@ -38,14 +39,14 @@ returns-clause-safe g c =
     let circuit = seen g.C.Source.left g.C.Source.faults c.args.circuit.now c.answered.new.circuit in
     let bits = seen g.B.Source.left g.B.Source.faults c.args.bits.now c.answered.new.bits in
     let out = seen g.O.Sink.held g.O.Sink.faults c.args.out.now c.answered.new.out in
-    λ o j r a kept done low. (whole_asked _ circuit bits out (g.D.Disk.face c.args.disk.now) (g.D.Disk.face c.answered.new.disk) (g.F.Disk.face c.args.old.now) (g.T.Timer.granted_count c.args.timer.now) (g.T.Timer.granted_count c.answered.new.timer) _ c.answered.ensures.ended o j a done).run.whole.safe kept r low
+    λ o j r a kept done low. (whole_asked _ circuit bits out (g.D.Disk.face c.args.disk.now) (g.D.Disk.face c.answered.new.disk) (g.F.Disk.face c.args.old.now) (λ n. RoseBy n (g.T.Timer.granted_count c.args.timer.now) (g.T.Timer.granted_count c.answered.new.timer)) _ c.answered.ensures.ended o j a done).run.whole.safe kept r low
 
 pub returns-clause-record_done : goal.returns-clause-record_done
 returns-clause-record_done g c =
     let circuit = seen g.C.Source.left g.C.Source.faults c.args.circuit.now c.answered.new.circuit in
     let bits = seen g.B.Source.left g.B.Source.faults c.args.bits.now c.answered.new.bits in
     let out = seen g.O.Sink.held g.O.Sink.faults c.args.out.now c.answered.new.out in
-    λ o j a done. (whole_asked _ circuit bits out (g.D.Disk.face c.args.disk.now) (g.D.Disk.face c.answered.new.disk) (g.F.Disk.face c.args.old.now) (g.T.Timer.granted_count c.args.timer.now) (g.T.Timer.granted_count c.answered.new.timer) _ c.answered.ensures.ended o j a done).run.whole.recorded
+    λ o j a done. (whole_asked _ circuit bits out (g.D.Disk.face c.args.disk.now) (g.D.Disk.face c.answered.new.disk) (g.F.Disk.face c.args.old.now) (λ n. RoseBy n (g.T.Timer.granted_count c.args.timer.now) (g.T.Timer.granted_count c.answered.new.timer)) _ c.answered.ensures.ended o j a done).run.whole.recorded
 
 pub returns-clause-record_grows : goal.returns-clause-record_grows
 returns-clause-record_grows g c =
@@ -58,7 +59,7 @@ returns-clause-exact g c =
     let circuit = seen g.C.Source.left g.C.Source.faults c.args.circuit.now c.answered.new.circuit in
     let bits = seen g.B.Source.left g.B.Source.faults c.args.bits.now c.answered.new.bits in
     let out = seen g.O.Sink.held g.O.Sink.faults c.args.out.now c.answered.new.out in
-    exact_asked _ circuit bits out (g.D.Disk.face c.args.disk.now) (g.D.Disk.face c.answered.new.disk) (g.F.Disk.face c.args.old.now) (g.T.Timer.granted_count c.args.timer.now) (g.T.Timer.granted_count c.answered.new.timer) _ c.answered.ensures.ended
+    exact_asked _ circuit bits out (g.D.Disk.face c.args.disk.now) (g.D.Disk.face c.answered.new.disk) (g.F.Disk.face c.args.old.now) (λ n. RoseBy n (g.T.Timer.granted_count c.args.timer.now) (g.T.Timer.granted_count c.answered.new.timer)) _ c.answered.ensures.ended
 
 pub returns-clause-unwritten_refused : goal.returns-clause-unwritten_refused
 returns-clause-unwritten_refused g c =
@@ -77,32 +78,32 @@ returns-clause-refused g c =
     let circuit = seen g.C.Source.left g.C.Source.faults c.args.circuit.now c.answered.new.circuit in
     let bits = seen g.B.Source.left g.B.Source.faults c.args.bits.now c.answered.new.bits in
     let out = seen g.O.Sink.held g.O.Sink.faults c.args.out.now c.answered.new.out in
-    refused_asked _ circuit bits out (g.D.Disk.face c.args.disk.now) (g.D.Disk.face c.answered.new.disk) (g.F.Disk.face c.args.old.now) (g.F.Disk.face c.answered.new.old) (g.T.Timer.granted_count c.args.timer.now) (g.T.Timer.granted_count c.answered.new.timer) _ _ c.answered.ensures.printed c.answered.ensures.stopped c.answered.ensures.ended
+    refused_asked _ circuit bits out (g.D.Disk.face c.args.disk.now) (g.D.Disk.face c.answered.new.disk) (g.F.Disk.face c.args.old.now) (g.F.Disk.face c.answered.new.old) (λ n. RoseBy n (g.T.Timer.granted_count c.args.timer.now) (g.T.Timer.granted_count c.answered.new.timer)) _ _ c.answered.ensures.printed c.answered.ensures.stopped c.answered.ensures.ended
 
 pub returns-clause-refused_by_words : goal.returns-clause-refused_by_words
 returns-clause-refused_by_words g c =
     let circuit = seen g.C.Source.left g.C.Source.faults c.args.circuit.now c.answered.new.circuit in
     let bits = seen g.B.Source.left g.B.Source.faults c.args.bits.now c.answered.new.bits in
     let out = seen g.O.Sink.held g.O.Sink.faults c.args.out.now c.answered.new.out in
-    words_refused _ circuit bits out (g.D.Disk.face c.args.disk.now) (g.D.Disk.face c.answered.new.disk) (g.F.Disk.face c.args.old.now) (g.F.Disk.face c.answered.new.old) (g.T.Timer.granted_count c.args.timer.now) (g.T.Timer.granted_count c.answered.new.timer) _ _ c.answered.ensures.printed c.answered.ensures.stopped c.answered.ensures.ended
+    words_refused _ circuit bits out (g.D.Disk.face c.args.disk.now) (g.D.Disk.face c.answered.new.disk) (g.F.Disk.face c.args.old.now) (g.F.Disk.face c.answered.new.old) (λ n. RoseBy n (g.T.Timer.granted_count c.args.timer.now) (g.T.Timer.granted_count c.answered.new.timer)) _ _ c.answered.ensures.printed c.answered.ensures.stopped c.answered.ensures.ended
 
 pub returns-clause-journal_refused : goal.returns-clause-journal_refused
 returns-clause-journal_refused g c =
     let circuit = seen g.C.Source.left g.C.Source.faults c.args.circuit.now c.answered.new.circuit in
     let bits = seen g.B.Source.left g.B.Source.faults c.args.bits.now c.answered.new.bits in
     let out = seen g.O.Sink.held g.O.Sink.faults c.args.out.now c.answered.new.out in
-    journal_refused _ circuit bits out (g.D.Disk.face c.args.disk.now) (g.D.Disk.face c.answered.new.disk) (g.F.Disk.face c.args.old.now) (g.F.Disk.face c.answered.new.old) (g.T.Timer.granted_count c.args.timer.now) (g.T.Timer.granted_count c.answered.new.timer) _ _ c.answered.ensures.printed c.answered.ensures.stopped c.answered.ensures.ended
+    journal_refused _ circuit bits out (g.D.Disk.face c.args.disk.now) (g.D.Disk.face c.answered.new.disk) (g.F.Disk.face c.args.old.now) (g.F.Disk.face c.answered.new.old) (λ n. RoseBy n (g.T.Timer.granted_count c.args.timer.now) (g.T.Timer.granted_count c.answered.new.timer)) _ _ c.answered.ensures.printed c.answered.ensures.stopped c.answered.ensures.ended
 
 pub returns-clause-complete : goal.returns-clause-complete
 returns-clause-complete g c =
     let circuit = seen g.C.Source.left g.C.Source.faults c.args.circuit.now c.answered.new.circuit in
     let bits = seen g.B.Source.left g.B.Source.faults c.args.bits.now c.answered.new.bits in
     let out = seen g.O.Sink.held g.O.Sink.faults c.args.out.now c.answered.new.out in
-    completes _ circuit bits out (g.D.Disk.face c.args.disk.now) (g.D.Disk.face c.answered.new.disk) (g.F.Disk.face c.args.old.now) (g.F.Disk.face c.answered.new.old) (g.T.Timer.granted_count c.args.timer.now) (g.T.Timer.granted_count c.answered.new.timer) _ _ c.answered.ensures.printed c.answered.ensures.stopped c.answered.ensures.ended
+    completes _ circuit bits out (g.D.Disk.face c.args.disk.now) (g.D.Disk.face c.answered.new.disk) (g.F.Disk.face c.args.old.now) (g.F.Disk.face c.answered.new.old) (λ n. RoseBy n (g.T.Timer.granted_count c.args.timer.now) (g.T.Timer.granted_count c.answered.new.timer)) _ _ c.answered.ensures.printed c.answered.ensures.stopped c.answered.ensures.ended
 
 pub returns-clause-granted : goal.returns-clause-granted
 returns-clause-granted g c =
     let circuit = seen g.C.Source.left g.C.Source.faults c.args.circuit.now c.answered.new.circuit in
     let bits = seen g.B.Source.left g.B.Source.faults c.args.bits.now c.answered.new.bits in
     let out = seen g.O.Sink.held g.O.Sink.faults c.args.out.now c.answered.new.out in
-    λ o j a done. (whole_asked _ circuit bits out (g.D.Disk.face c.args.disk.now) (g.D.Disk.face c.answered.new.disk) (g.F.Disk.face c.args.old.now) (g.T.Timer.granted_count c.args.timer.now) (g.T.Timer.granted_count c.answered.new.timer) _ c.answered.ensures.ended o j a done).run.granted
+    λ o j a done. (whole_asked _ circuit bits out (g.D.Disk.face c.args.disk.now) (g.D.Disk.face c.answered.new.disk) (g.F.Disk.face c.args.old.now) (λ n. RoseBy n (g.T.Timer.granted_count c.args.timer.now) (g.T.Timer.granted_count c.answered.new.timer)) _ c.answered.ensures.ended o j a done).run.granted

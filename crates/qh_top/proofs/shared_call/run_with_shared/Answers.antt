@@ -1,0 +1,49 @@
+use Rattle.std.proofs.Common.{ℕ, List, length, take, ◌<◌, refl, subst}
+use Rattle.std.specs.Io.KnownBytes.{Appends}
+use Rattle.qh_top.specs.Request.{AnyGrants}
+use Rattle.qh_top.proofs.Causes.{answer_cause}
+use Rattle.qh_top.proofs.Runs.{answered_prints, moves_or_stays, breaks_off, written, broken, stopped_ends}
+use Rattle.qh_top.proofs.shared_call.run_with_shared.Goals as goal
+
+pub returns-in-Err-answer_shared-clause-cause : goal.returns-in-Err-answer_shared-clause-cause
+returns-in-Err-answer_shared-clause-cause g c =
+    answer_cause c.args.options.now _ _ _ _ _ _ _ _ c.in-Ok.input.0 c.in-Ok.input.1.items c.in-Ok.ensures.input c.args.options.now.part refl c.in-Err-answer_shared.stop c.in-Err-answer_shared.ensures.cause
+
+pub returns-in-Err-answer_shared-clause-ended_by : goal.returns-in-Err-answer_shared-clause-ended_by
+returns-in-Err-answer_shared-clause-ended_by g c =
+    stopped_ends c.args.options.now _ _ _ _ _ _ c.in-Ok.input.0 c.in-Ok.input.1.items c.in-Ok.ensures.input _ _ c.args.options.now.part refl c.in-Err-answer_shared.stop c.in-Err-answer_shared.ensures.cause
+
+pub returns-clause-cause : goal.returns-clause-cause
+returns-clause-cause g c =
+    breaks_off c.args.options.now _ _ (g.D.Disk.face c.args.disk.now) (g.D.Disk.face c.answer_shared.new.disk) (g.F.Disk.face c.args.old.now) _ c.in-Ok.input.0 c.in-Ok.input.1.items c.in-Ok.ensures.input
+    _ _ c.in-Ok-answer_shared.text.items c.in-Ok.ensures.indices.below c.in-Ok-answer_shared.ensures.answer c.in-Err-write_all_of.ensures.cause
+    (subst (λ t. Appends (g.O.Sink.held c.args.out.now) (g.O.Sink.held c.write_all_of.new.sink) (take c.in-Err-write_all_of.fault.written t)) c.deref.ensures.value c.in-Err-write_all_of.ensures.part.1)
+    (subst (λ (t : List ℕ). c.in-Err-write_all_of.fault.written < length t) c.deref.ensures.value c.in-Err-write_all_of.ensures.part.0)
+
+pub returns-clause-ended_by : goal.returns-clause-ended_by
+returns-clause-ended_by g c =
+    broken c.args.options.now _ _ _ _ _ _ c.in-Ok.input.0 c.in-Ok.input.1.items c.in-Ok.ensures.input _ c.in-Err-write_all_of.fault.written c.in-Ok-answer_shared.text.items c.in-Ok-answer_shared.ensures.answer
+    (subst (λ t. Appends (g.O.Sink.held c.args.out.now) (g.O.Sink.held c.write_all_of.new.sink) (take c.in-Err-write_all_of.fault.written t)) c.deref.ensures.value c.in-Err-write_all_of.ensures.part.1)
+
+pub returns-in-Ok-write_all_of-clause-printed : goal.returns-in-Ok-write_all_of-clause-printed
+returns-in-Ok-write_all_of-clause-printed g c =
+    answered_prints c.args.options.now _ _ (g.D.Disk.face c.args.disk.now) (g.D.Disk.face c.answer_shared.new.disk) (g.F.Disk.face c.args.old.now) _ c.in-Ok.input.0 c.in-Ok.input.1.items c.in-Ok.ensures.input
+    _ _ c.in-Ok-answer_shared.text.items c.in-Ok.ensures.indices.below c.in-Ok-answer_shared.ensures.answer
+    (subst (Appends (g.O.Sink.held c.args.out.now) (g.O.Sink.held c.write_all_of.new.sink)) c.deref.ensures.value c.in-Ok-write_all_of.ensures.whole)
+
+pub returns-in-Ok-write_all_of-clause-ended : goal.returns-in-Ok-write_all_of-clause-ended
+returns-in-Ok-write_all_of-clause-ended g c =
+    written c.args.options.now _ _ _ _ _ _ c.in-Ok.input.0 c.in-Ok.input.1.items c.in-Ok.ensures.input _ c.in-Ok-answer_shared.text.items c.in-Ok-answer_shared.ensures.answer
+    (subst (Appends (g.O.Sink.held c.args.out.now) (g.O.Sink.held c.write_all_of.new.sink)) c.deref.ensures.value c.in-Ok-write_all_of.ensures.whole)
+
+pub returns-in-Err-answer_shared-clause-moves : goal.returns-in-Err-answer_shared-clause-moves
+returns-in-Err-answer_shared-clause-moves g c =
+    moves_or_stays c.args.options.now _ _ _ _ _ AnyGrants c.in-Ok.input.0 c.in-Ok.input.1.items c.in-Ok.ensures.input _ _ c.answer_shared.ensures.moves
+
+pub returns-clause-moves : goal.returns-clause-moves
+returns-clause-moves g c =
+    moves_or_stays c.args.options.now _ _ _ _ _ AnyGrants c.in-Ok.input.0 c.in-Ok.input.1.items c.in-Ok.ensures.input _ _ c.answer_shared.ensures.moves
+
+pub returns-in-Ok-write_all_of-clause-moves : goal.returns-in-Ok-write_all_of-clause-moves
+returns-in-Ok-write_all_of-clause-moves g c =
+    moves_or_stays c.args.options.now _ _ _ _ _ AnyGrants c.in-Ok.input.0 c.in-Ok.input.1.items c.in-Ok.ensures.input _ _ c.answer_shared.ensures.moves

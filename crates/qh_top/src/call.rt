@@ -1,0 +1,141 @@
+//! The call of one caller.
+ghost use Rattle.std.specs.Prelude.{◌≡◌, ◌≢◌, ◌≤◌, ◌⊎◌, [], true, false, Err, Some, None, IfErr, OnOk, IfSome, IsSomeAnd};
+ghost use Rattle.qh_words.specs.Size.{IsGenSize};
+ghost use Rattle.qh_words.specs.declared.options.Options.{Options as OptionsValue};
+ghost use Rattle.qh_words.specs.declared.size.GenSize.{GenSize as Size};
+ghost use Rattle.qh_top.specs.Seen.{seen};
+ghost use Rattle.qh_top.specs.Jobs.{request};
+ghost use Rattle.qh_top.specs.Request.{Prints, EndsEarly, HeardOf};
+ghost use Rattle.qh_top.specs.Stops.{status_of, MayStopBy, MayStop, Says, Stops};
+ghost use Rattle.qh_top.specs.Parts.{Moves, Ended};
+
+use crate::answer::answer;
+use crate::input::take_input;
+use crate::say::tell;
+use crate::stop::Stop;
+use qh_disk::Disk;
+use qh_io::{Sink, Source, write_all_of};
+use qh_lease::Timer;
+use qh_words::{Options, WordsFault, read_words};
+use std::alloc::Global;
+
+/// Takes the input that the options ask for, computes, and writes.
+fn run_with<C: Source, B: Source, O: Sink, D: Disk, F: Disk, T: Timer>(
+    alloc: Global,
+    options: &Options,
+    circuit: &mut C,
+    bits: &mut B,
+    out: &mut O,
+    disk: &mut D,
+    old: &mut F,
+    timer: &mut T,
+) -> Result<(), Stop>
+    requires { IfSome options.now.generated IsGenSize }
+    ensures later_circuit { C.faults circuit.old ≤ C.faults circuit.new }
+    ensures later_bits { B.faults bits.old ≤ B.faults bits.new }
+    ensures later_out { O.faults out.old ≤ O.faults out.new }
+    ensures unread { (size : Size) → options.now.generated ≡ Some size → (circuit.new ≡ circuit.old) × (bits.new ≡ bits.old) }
+    ensures cause { IfErr result (MayStopBy options.now (seen C.left C.faults circuit.old circuit.new) (seen B.left B.faults bits.old bits.new) (seen O.held O.faults out.old out.new) (D.face disk.old) (D.face disk.new) (F.face old.old) (F.face old.new)) }
+    ensures untouched { IfErr result (λ stop. (status_of stop ≡ 6 → ⊥) → out.new ≡ out.old) }
+    ensures printed { OnOk result (Prints options.now (seen C.left C.faults circuit.old circuit.new) (seen B.left B.faults bits.old bits.new) (seen O.held O.faults out.old out.new) (D.face disk.new) (λ text. text)) }
+    ensures ended { OnOk result (Ended options.now (seen C.left C.faults circuit.old circuit.new) (seen B.left B.faults bits.old bits.new) (seen O.held O.faults out.old out.new) (D.face disk.old) (D.face disk.new) (F.face old.old) (HeardOf (T.granted_count timer.old) (T.granted_count timer.new)) 0) }
+    ensures ended_by { IfErr result (λ stop. Ended options.now (seen C.left C.faults circuit.old circuit.new) (seen B.left B.faults bits.old bits.new) (seen O.held O.faults out.old out.new) (D.face disk.old) (D.face disk.new) (F.face old.old) (HeardOf (T.granted_count timer.old) (T.granted_count timer.new)) (status_of stop)) }
+    ensures moves { ((disk.new ≡ disk.old) × (old.new ≡ old.old)) ⊎ Moves options.now (seen C.left C.faults circuit.old circuit.new) (seen B.left B.faults bits.old bits.new) (D.face disk.old) (D.face disk.new) (F.face old.old) (F.face old.new) }
+    ensures alone { IfErr result (λ stop. EndsEarly (status_of stop) → (disk.new ≡ disk.old) × (old.new ≡ old.old)) }
+    ensures old_unasked { (options.now.from ≡ None) ⊎ ((options.now.fresh ≡ false) × IsSomeAnd (D.face disk.old).content (λ f. f ≢ [])) → old.new ≡ old.old }
+    ensures loans { D.loans disk.new ≡ D.loans disk.old }
+    ensures old_loans { F.loans old.new ≡ F.loans old.old }
+{
+    let (value, indices) = match take_input(alloc, options, circuit, bits) {
+        Ok(input) => input,
+        Err(stop) => return Err(stop),
+    };
+    let text = match answer(alloc, options, value, indices, disk, old, timer) {
+        Ok(text) => text,
+        Err(stop) => return Err(stop),
+    };
+    match write_all_of(out, &text) {
+        Ok(()) => Ok(()),
+        Err(fault) => Err(Stop::WriteFault(fault.written)),
+    }
+}
+
+/// Reads the words, and runs where they are a request.
+fn run<C: Source, B: Source, O: Sink, D: Disk, F: Disk, T: Timer>(
+    alloc: Global,
+    words: &[String],
+    circuit: &mut C,
+    bits: &mut B,
+    out: &mut O,
+    disk: &mut D,
+    old: &mut F,
+    timer: &mut T,
+) -> Result<(), Stop>
+    ensures later_circuit { C.faults circuit.old ≤ C.faults circuit.new }
+    ensures later_bits { B.faults bits.old ≤ B.faults bits.new }
+    ensures later_out { O.faults out.old ≤ O.faults out.new }
+    ensures unread { result ≡ Err Stop.Usage → (circuit.new ≡ circuit.old) × (bits.new ≡ bits.old) }
+    ensures generated { IfSome (request words.now) (λ o. (size : Size) → o.generated ≡ Some size → (circuit.new ≡ circuit.old) × (bits.new ≡ bits.old)) }
+    ensures cause { IfErr result (MayStop (request words.now) (seen C.left C.faults circuit.old circuit.new) (seen B.left B.faults bits.old bits.new) (seen O.held O.faults out.old out.new) (D.face disk.old) (D.face disk.new) (F.face old.old) (F.face old.new)) }
+    ensures untouched { IfErr result (λ stop. (status_of stop ≡ 6 → ⊥) → out.new ≡ out.old) }
+    ensures printed { OnOk result (IsSomeAnd (request words.now) (λ o.
+        Prints o (seen C.left C.faults circuit.old circuit.new) (seen B.left B.faults bits.old bits.new) (seen O.held O.faults out.old out.new) (D.face disk.new) (λ text. text))) }
+    ensures ended { OnOk result (IfSome (request words.now) (λ o.
+        Ended o (seen C.left C.faults circuit.old circuit.new) (seen B.left B.faults bits.old bits.new) (seen O.held O.faults out.old out.new) (D.face disk.old) (D.face disk.new) (F.face old.old) (HeardOf (T.granted_count timer.old) (T.granted_count timer.new)) 0)) }
+    ensures ended_by { IfErr result (λ stop. IfSome (request words.now) (λ o.
+        Ended o (seen C.left C.faults circuit.old circuit.new) (seen B.left B.faults bits.old bits.new) (seen O.held O.faults out.old out.new) (D.face disk.old) (D.face disk.new) (F.face old.old) (HeardOf (T.granted_count timer.old) (T.granted_count timer.new)) (status_of stop))) }
+    ensures moves { ((disk.new ≡ disk.old) × (old.new ≡ old.old)) ⊎ IsSomeAnd (request words.now) (λ o.
+        Moves o (seen C.left C.faults circuit.old circuit.new) (seen B.left B.faults bits.old bits.new) (D.face disk.old) (D.face disk.new) (F.face old.old) (F.face old.new)) }
+    ensures alone { IfErr result (λ stop. EndsEarly (status_of stop) → (disk.new ≡ disk.old) × (old.new ≡ old.old)) }
+    ensures old_unasked { (o : OptionsValue) → request words.now ≡ Some o
+        → (o.from ≡ None) ⊎ ((o.fresh ≡ false) × IsSomeAnd (D.face disk.old).content (λ f. f ≢ [])) → old.new ≡ old.old }
+    ensures loans { D.loans disk.new ≡ D.loans disk.old }
+    ensures old_loans { F.loans old.new ≡ F.loans old.old }
+{
+    match read_words(alloc, words) {
+        Ok(options) => run_with(alloc, &options, circuit, bits, out, disk, old, timer),
+        Err(WordsFault::Usage) => Err(Stop::Usage),
+        Err(WordsFault::Memory) => Err(Stop::Memory),
+    }
+}
+
+/// Runs, tells why it stopped, and answers the status.
+pub(crate) fn answered<C: Source, B: Source, O: Sink, E: Sink, D: Disk, F: Disk, T: Timer>(
+    alloc: Global,
+    words: &[String],
+    circuit: &mut C,
+    bits: &mut B,
+    out: &mut O,
+    err: &mut E,
+    disk: &mut D,
+    old: &mut F,
+    timer: &mut T,
+) -> u8
+    ensures printed { result ≡ 0 → IsSomeAnd (request words.now) (λ o.
+        Prints o (seen C.left C.faults circuit.old circuit.new) (seen B.left B.faults bits.old bits.new) (seen O.held O.faults out.old out.new) (D.face disk.new) (λ text. text)) }
+    ensures quiet { result ≡ 0 → err.new ≡ err.old }
+    ensures stopped { result ≢ 0 → Stops result
+        (MayStop (request words.now) (seen C.left C.faults circuit.old circuit.new) (seen B.left B.faults bits.old bits.new) (seen O.held O.faults out.old out.new) (D.face disk.old) (D.face disk.new) (F.face old.old) (F.face old.new))
+        (Says (seen E.held E.faults err.old err.new)) }
+    ensures ended { IfSome (request words.now) (λ o.
+        Ended o (seen C.left C.faults circuit.old circuit.new) (seen B.left B.faults bits.old bits.new) (seen O.held O.faults out.old out.new) (D.face disk.old) (D.face disk.new) (F.face old.old) (HeardOf (T.granted_count timer.old) (T.granted_count timer.new)) result) }
+    ensures moves { ((disk.new ≡ disk.old) × (old.new ≡ old.old)) ⊎ IsSomeAnd (request words.now) (λ o.
+        Moves o (seen C.left C.faults circuit.old circuit.new) (seen B.left B.faults bits.old bits.new) (D.face disk.old) (D.face disk.new) (F.face old.old) (F.face old.new)) }
+    ensures untouched { result ≢ 0 → result ≢ 6 → out.new ≡ out.old }
+    ensures alone { EndsEarly result → (disk.new ≡ disk.old) × (old.new ≡ old.old) }
+    ensures old_unasked { (o : OptionsValue) → request words.now ≡ Some o
+        → (o.from ≡ None) ⊎ ((o.fresh ≡ false) × IsSomeAnd (D.face disk.old).content (λ f. f ≢ [])) → old.new ≡ old.old }
+    ensures unread { result ≡ 1 → (circuit.new ≡ circuit.old) × (bits.new ≡ bits.old) }
+    ensures generated { IfSome (request words.now) (λ o. (size : Size) → o.generated ≡ Some size → (circuit.new ≡ circuit.old) × (bits.new ≡ bits.old)) }
+    ensures counts { (C.faults circuit.old ≤ C.faults circuit.new) × (B.faults bits.old ≤ B.faults bits.new)
+        × (O.faults out.old ≤ O.faults out.new) × (E.faults err.old ≤ E.faults err.new) }
+    ensures loans { (D.loans disk.new ≡ D.loans disk.old) × (F.loans old.new ≡ F.loans old.old) }
+{
+    match run(alloc, words, circuit, bits, out, disk, old, timer) {
+        Ok(()) => 0,
+        Err(stop) => {
+            tell(err, stop);
+            stop.status()
+        }
+    }
+}
