@@ -6,7 +6,6 @@ use qh_io::{MemSink, MemSource};
 use qh_lease::ScriptTimer;
 use qh_workers::{FreeGate, Pass, Point, WorkerGate};
 use std::process::Abort;
-use std::rt::AllocGlobal;
 use std::sync::Wait;
 use std::test::Fail;
 use std::thread::Threads;
@@ -59,30 +58,27 @@ fn check<R: Abort + AllocGlobal + Threads + Wait + Sync, W: WorkerGate + Sync>(
 
 const SUMS: &[u8] = b"00 1 0 0 0 1\n10 0 0 0 0 0\n01 0 0 0 0 0\n11 -1 0 0 0 1\n";
 
-const ROWS: [Row; 6] = [
-    bell(&["-c", "a", "-i", "b", "-t", "2"]),
-    bell(&["-c", "a", "-i", "b", "-k", "0"]),
-    bell(&["-c", "a", "-i", "b", "-k", "1", "-t", "16"]),
-    two(
-        &["-c", "a", "-i", "b", "-k", "0", "-p", "1", "-t", "1"],
-        SUMS,
-    ),
-    two(
-        &["-c", "a", "-i", "b", "-k", "0", "-p", "1", "-t", "2"],
-        SUMS,
-    ),
-    two(
-        &[
-            "-c", "a", "-i", "b", "-k", "0", "-p", "1", "-t", "8", "-l", "0",
-        ],
-        SUMS,
-    ),
-];
+/// Two with these words, whose two ranges workers share.
+const fn shared(words: &'static [&'static str]) -> Row {
+    two(words, SUMS)
+}
+
+#[test]
+fn uncut_by_threads(rt: HostRuntime) -> Result<(), Fail> {
+    check(&rt, &bell(&["-c", "a", "-i", "b", "-t", "2"]), &FreeGate)
+}
 
 #[test]
 fn any_number_of_workers(rt: HostRuntime) -> Result<(), Fail> {
-    for row in &ROWS {
-        check(&rt, row, &FreeGate)?;
+    for row in [
+        bell(&["-c", "a", "-i", "b", "-k", "1", "-t", "16"]),
+        shared(&["-c", "a", "-i", "b", "-k", "0", "-p", "1", "-t", "1"]),
+        shared(&["-c", "a", "-i", "b", "-k", "0", "-p", "1", "-t", "2"]),
+        shared(&[
+            "-c", "a", "-i", "b", "-k", "0", "-p", "1", "-t", "8", "-l", "0",
+        ]),
+    ] {
+        check(&rt, &row, &FreeGate)?;
     }
     Ok(())
 }
@@ -90,27 +86,30 @@ fn any_number_of_workers(rt: HostRuntime) -> Result<(), Fail> {
 /// What the workers leave, the caller does.
 #[test]
 fn workers_that_quit(rt: HostRuntime) -> Result<(), Fail> {
-    check(&rt, &ROWS[4], &ShutGate)
+    check(
+        &rt,
+        &shared(&["-c", "a", "-i", "b", "-k", "0", "-p", "1", "-t", "2"]),
+        &ShutGate,
+    )
 }
 
 /// A sink that fails, and a plan that is refused.
 #[test]
 fn other_ends(rt: HostRuntime) -> Result<(), Fail> {
-    let row = Row {
+    let broken = Row {
         fails: [&[], &[], &[2], &[]],
         status: 6,
         out: b"00 1 0 0 0",
         err: b"write fault after 10 bytes\n",
-        ..ROWS[1]
+        ..bell(&["-c", "a", "-i", "b", "-k", "0", "-t", "2"])
     };
-    check(&rt, &row, &FreeGate)?;
+    check(&rt, &broken, &FreeGate)?;
     let refused = Row {
-        words: &["-c", "a", "-i", "b", "-k", "0,1", "-t", "4"],
         fails: NO_FAULT,
         status: 2,
         out: b"",
         err: b"refused: plan: EmptyPart\n",
-        ..ROWS[1]
+        ..bell(&["-c", "a", "-i", "b", "-k", "0,1", "-t", "4"])
     };
     check(&rt, &refused, &FreeGate)
 }
