@@ -1,6 +1,4 @@
 //! Runs of a job of two ranges: over disks in memory, and without a journal.
-mod journals;
-
 use crate::{Ran, RunEnd, run_kept, run_unkept};
 use qh_disk::MemDisk;
 use qh_job_text::read_job_text;
