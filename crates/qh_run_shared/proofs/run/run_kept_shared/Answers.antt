@@ -18,7 +18,7 @@ returns-in-Ok-clause-whole g c =
     opened_whole g.D.Disk.face g.D.Disk.loans c.args.fresh c.args.taking (arc_value c.args.job) (g.F.Disk.face c.args.old.now) c.args.disk has.value c.run_open.result.disk k.table
     c.run_open.result.end has.holds (c.run_open.ensures.runs has.value has.is)
     ((g.met.D.Disk g.world.𝓛 g.world.𝓜 g.world.𝓡 ((λ s h. h), (λ h. h), (λ h. h), (λ h. h))).current c.args.disk)
-    ((g.met.F.Disk g.world.𝓛 g.world.𝓜 g.world.𝓡 ((λ s h. h), (λ h. h), (λ h. h), (λ h. h))).current c.args.old.now)
+    (g.met.F.Disk.current c.args.old.now)
 
 pub returns-in-Ok-clause-fault : goal.returns-in-Ok-clause-fault
 returns-in-Ok-clause-fault g c =
