@@ -1,6 +1,7 @@
 //! `qsimh_amplitudes`: prints exact amplitudes of a circuit.
 //!
-//! It reads its words, hands over the files that they name, and ends with the status of the call.
+//! It holds the places of the standard streams, reads its words, hands over the files that they name, and ends with the
+//! status of the call.
 #![tactic(auto)]
 
 mod named;
@@ -12,6 +13,7 @@ use qh_top::{Ran, qsimh};
 use qh_workers::FreeGate;
 use std::alloc::AllocError;
 use std::env::Env;
+use std::fs::File;
 use std::process::ExitCode;
 use std::{env, io};
 
@@ -38,6 +40,14 @@ fn words_after_name<R: Env + AllocGlobal>(rt: &R) -> Result<Vec<String>, AllocEr
 }
 
 fn main(rt: HostRuntime) -> ExitCode {
+    // A file that is opened comes in the lowest place that is free. So that none comes in the place of a standard stream
+    // that is closed, where what goes to the stream would go over the file, these three are held to the end. They can be
+    // read alone: what goes to a closed stream is a fault.
+    let _held = (
+        File::open(&rt, "/dev/null"),
+        File::open(&rt, "/dev/null"),
+        File::open(&rt, "/dev/null"),
+    );
     let Ok(words) = words_after_name(&rt) else {
         return ExitCode::from(MEMORY);
     };
