@@ -136,14 +136,15 @@ class Run:
 
 
 class Test:
-    """Counts what was tried and what failed, and ends with the line `N tried, M failed`."""
+    """Counts what was tried, and what of it failed, and ends with the line `N tried, M failed`."""
 
     def __init__(self, name, options):
-        self.name, self.options, self.tried, self.failed = name, options, 0, 0
+        self.name, self.options, self.tried, self.failed, self.said = name, options, 0, set(), 0
 
     def fail(self, text):
-        self.failed += 1
-        if self.failed <= 20:
+        self.failed.add(self.tried)
+        self.said += 1
+        if self.said <= 30:
             print('%s: %s' % (self.name, text), flush=True)
 
     def check(self, holds, text, *values):
@@ -161,7 +162,7 @@ class Test:
         return Run(done.returncode, done.stdout, done.stderr)
 
     def end(self):
-        print('%d tried, %d failed' % (self.tried, self.failed))
+        print('%d tried, %d failed' % (self.tried, len(self.failed)))
         return 1 if self.failed or not self.tried else 0
 
 
