@@ -1,9 +1,14 @@
 //! What the reader of words says.
+ghost use Rattle.std.specs.Prelude.{◌≡◌, IfOk, codes, map, string_bytes, None};
+ghost use Rattle.qh_words.specs.Request.{options_of};
+
 use qh_words::{GenSize, Options, Text, WordsFault, read_words};
 use std::alloc::{AllocError, Global};
 
 /// `ok` and the options, or `usage`.
-pub fn of_words(alloc: Global, words: &[String]) -> Result<String, AllocError> {
+pub fn of_words(alloc: Global, words: &[String]) -> Result<String, AllocError>
+    ensures usage { IfOk result (λ t. options_of (map string_bytes words.now) ≡ None → string_bytes t ≡ codes "usage") }
+{
     match read_words(alloc, words) {
         Ok(options) => of_options(alloc, &options),
         Err(WordsFault::Usage) => String::from_str(alloc, "usage"),
