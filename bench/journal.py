@@ -8,6 +8,7 @@ where the file stands for that job, but for whether a plan accepts it. `refusal`
 that is known, and `whole` makes the bytes of a journal.
 """
 import math
+import signal
 import sys
 
 MARK = 0xA5
@@ -157,4 +158,6 @@ def main(name):
 
 
 if __name__ == '__main__':
+    # Its front is enough for a reader that closes the pipe.
+    signal.signal(signal.SIGPIPE, signal.SIG_DFL)
     sys.exit(main(sys.argv[1]))
