@@ -17,12 +17,13 @@ use std::rt::Files;
 /// A disk over the file at a path. It tells nothing of what the file holds, so nothing is claimed
 /// of that.
 ///
-/// The first call opens the file, or creates it, and asks for a lock on it. Without a path every
-/// call fails, and none reaches the system.
+/// The first call opens the file and asks for a lock on it. Without a path every call fails, and
+/// none reaches the system.
 #[derive(Drop)]
 pub struct FileDisk<'r, R: Files<File = File> + Sync> {
     rt: &'r R,
     path: Option<String>,
+    changes: bool,
     file: Option<File>,
     faults: u64,
 }
@@ -40,13 +41,29 @@ impl<'r, R: Files<File = File> + Sync> Model for FileDisk<'r, R> {
 }
 
 impl<'r, R: Files<File = File> + Sync> FileDisk<'r, R> {
-    /// A disk over the file at this path, which no call has reached yet.
+    /// A disk over the file at this path, which no call has reached yet. A file that is missing is
+    /// made.
     pub fn new(rt: &'r R, path: Option<String>) -> FileDisk<'r, R>
         ensures { result ≡ record { named = is_some path; faults = 0 } }
     {
         FileDisk {
             rt,
             path,
+            changes: true,
+            file: None,
+            faults: 0,
+        }
+    }
+
+    /// As `new`, but the file is opened for reading alone: where it is missing it stays so, and
+    /// each call on it fails, as does each call that would change a file.
+    pub fn read_only(rt: &'r R, path: Option<String>) -> FileDisk<'r, R>
+        ensures { result ≡ record { named = is_some path; faults = 0 } }
+    {
+        FileDisk {
+            rt,
+            path,
+            changes: false,
             file: None,
             faults: 0,
         }
@@ -69,7 +86,13 @@ impl<'r, R: Files<File = File> + Sync> Disk for FileDisk<'r, R> {
         ensures ok { OnOk result (self.new ≡ self.old) }
         ensures err { OnErr result (self.new ≡ record self.old { faults = raised self.old.faults }) }
     {
-        reach(self.rt, &self.path, &mut self.file, &mut self.faults)?;
+        reach(
+            self.rt,
+            &self.path,
+            self.changes,
+            &mut self.file,
+            &mut self.faults,
+        )?;
         let answer = length_of(self.file.as_ref().unwrap());
         counted(&mut self.faults, answer)
     }
@@ -84,7 +107,13 @@ impl<'r, R: Files<File = File> + Sync> Disk for FileDisk<'r, R> {
         ensures ok { OnOk result (self.new ≡ self.old) }
         ensures err { OnErr result (self.new ≡ record self.old { faults = raised self.old.faults }) }
     {
-        reach(self.rt, &self.path, &mut self.file, &mut self.faults)?;
+        reach(
+            self.rt,
+            &self.path,
+            self.changes,
+            &mut self.file,
+            &mut self.faults,
+        )?;
         let answer = self.file.as_ref().unwrap().read_exact_at(buf, at);
         counted(&mut self.faults, answer)
     }
@@ -99,7 +128,13 @@ impl<'r, R: Files<File = File> + Sync> Disk for FileDisk<'r, R> {
         ensures ok { OnOk result (self.new ≡ self.old) }
         ensures err { OnErr result (self.new ≡ record self.old { faults = raised self.old.faults }) }
     {
-        reach(self.rt, &self.path, &mut self.file, &mut self.faults)?;
+        reach(
+            self.rt,
+            &self.path,
+            self.changes,
+            &mut self.file,
+            &mut self.faults,
+        )?;
         let answer = self.file.as_ref().unwrap().write_all_at(bytes, at);
         counted(&mut self.faults, answer)
     }
@@ -113,7 +148,13 @@ impl<'r, R: Files<File = File> + Sync> Disk for FileDisk<'r, R> {
         ensures ok { OnOk result (self.new ≡ self.old) }
         ensures err { OnErr result (self.new ≡ record self.old { faults = raised self.old.faults }) }
     {
-        reach(self.rt, &self.path, &mut self.file, &mut self.faults)?;
+        reach(
+            self.rt,
+            &self.path,
+            self.changes,
+            &mut self.file,
+            &mut self.faults,
+        )?;
         let answer = self.file.as_ref().unwrap().set_len(length);
         counted(&mut self.faults, answer)
     }
@@ -128,7 +169,13 @@ impl<'r, R: Files<File = File> + Sync> Disk for FileDisk<'r, R> {
         ensures ok { OnOk result (self.new ≡ self.old) }
         ensures err { OnErr result (self.new ≡ record self.old { faults = raised self.old.faults }) }
     {
-        reach(self.rt, &self.path, &mut self.file, &mut self.faults)?;
+        reach(
+            self.rt,
+            &self.path,
+            self.changes,
+            &mut self.file,
+            &mut self.faults,
+        )?;
         let answer = self.file.as_ref().unwrap().sync_all();
         counted(&mut self.faults, answer)
     }
@@ -138,6 +185,7 @@ impl<'r, R: Files<File = File> + Sync> Disk for FileDisk<'r, R> {
 fn reach<R: Files<File = File>>(
     rt: &R,
     path: &Option<String>,
+    changes: bool,
     file: &mut Option<File>,
     faults: &mut u64,
 ) -> Result<(), Failed>
@@ -151,13 +199,13 @@ fn reach<R: Files<File = File>>(
     if file.is_some() {
         return Ok(());
     }
-    let opened = counted(faults, open(rt, path))?;
+    let opened = counted(faults, open(rt, path, changes))?;
     *file = Some(opened);
     Ok(())
 }
 
-// Opens the file, or creates it, and locks it.
-fn open<R: Files<File = File>>(rt: &R, path: &Option<String>) -> io::Result<File>
+// Opens the file and locks it; one that may be changed is made where it is missing.
+fn open<R: Files<File = File>>(rt: &R, path: &Option<String>, changes: bool) -> io::Result<File>
     ensures { is_some path.now ≡ false → IsErr result }
 {
     let Some(path) = path else {
@@ -165,8 +213,8 @@ fn open<R: Files<File = File>>(rt: &R, path: &Option<String>) -> io::Result<File
     };
     let file = OpenOptions::new()
         .read(true)
-        .write(true)
-        .create(true)
+        .write(changes)
+        .create(changes)
         .truncate(false)
         .open(rt, path.as_str())?;
     if file.try_lock().is_err() {

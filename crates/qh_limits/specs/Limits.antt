@@ -60,3 +60,19 @@ product_bits = 92
 -- the most layers of a generated grid
 abbrev pub max_layers : ℕ
 max_layers = 100
+
+-- the most weight of a circuit whose probabilities are computed
+abbrev pub max_weight : ℕ
+max_weight = 120
+
+-- the most bytes of a job text that is read from a journal
+abbrev pub max_job_bytes : ℕ
+max_job_bytes = 1048576
+
+-- the most workers of a run
+abbrev pub max_workers : ℕ
+max_workers = 16
+
+-- the most seconds of a lease: a day
+abbrev pub max_lease : ℕ
+max_lease = 86400

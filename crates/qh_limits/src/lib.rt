@@ -6,7 +6,7 @@
 #![tactic(auto)]
 
 ghost use Rattle.std.specs.Prelude.{◌≡◌};
-ghost use Rattle.qh_limits.specs.Limits.{max_qubits, max_uncut_qubits, max_part_qubits, max_gates, max_crossing, max_path_bits, max_ranges, max_grants, max_bitstrings, max_circuit_bytes, max_bits_bytes, max_journal_bytes, coefficient_bits, product_bits, max_layers};
+ghost use Rattle.qh_limits.specs.Limits.{max_qubits, max_uncut_qubits, max_part_qubits, max_gates, max_crossing, max_path_bits, max_ranges, max_grants, max_bitstrings, max_circuit_bytes, max_bits_bytes, max_journal_bytes, coefficient_bits, product_bits, max_layers, max_weight, max_job_bytes, max_workers, max_lease};
 
 /// The most qubits of a circuit.
 pub const MAX_QUBITS: u32 = 40;
@@ -53,6 +53,18 @@ pub const PRODUCT_BITS: u32 = 92;
 /// The most layers of a generated grid.
 pub const MAX_LAYERS: u32 = 100;
 
+/// The most weight of a circuit whose probabilities are computed.
+pub const MAX_WEIGHT: u32 = 120;
+
+/// The most bytes of a job text that is read from a journal.
+pub const MAX_JOB_BYTES: u64 = 1048576;
+
+/// The most workers of a run.
+pub const MAX_WORKERS: u32 = 16;
+
+/// The most seconds of a lease: a day.
+pub const MAX_LEASE: u32 = 86400;
+
 /// The constants are the limits that the definitions state.
 pub fn limits_are_stated()
     ensures qubits { MAX_QUBITS ≡ max_qubits }
@@ -70,4 +82,8 @@ pub fn limits_are_stated()
     ensures coefficients { COEFFICIENT_BITS ≡ coefficient_bits }
     ensures products { PRODUCT_BITS ≡ product_bits }
     ensures layers { MAX_LAYERS ≡ max_layers }
+    ensures weight { MAX_WEIGHT ≡ max_weight }
+    ensures job_bytes { MAX_JOB_BYTES ≡ max_job_bytes }
+    ensures workers { MAX_WORKERS ≡ max_workers }
+    ensures lease { MAX_LEASE ≡ max_lease }
 {}

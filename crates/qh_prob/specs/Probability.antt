@@ -1,5 +1,6 @@
 -- The probability of a basis index, exactly.
 use Rattle.std.specs.Prelude.{ℕ, ◌^◌, ℤ, pos, ◌+ℤ◌, ◌-ℤ◌, ◌*ℤ◌, ◌≤ℤ◌, List, [], ◌∷◌, map, unsigned_abs}
+use Rattle.qh_limits.specs.Limits.{max_weight}
 use Rattle.qh_ring.specs.declared.number.Omega.{Omega}
 use Rattle.qh_ring.specs.States.{listed}
 use Rattle.qh_gates.specs.Circuits.{Circuit}
@@ -34,10 +35,6 @@ total (x ∷ xs) = plus x (total xs)
 -- 1, over 2 ^ k
 abbrev pub certain : ℕ → Prob
 certain k = record { p = pos (2 ^ k); q = pos 0 }
-
--- the greatest k
-abbrev pub max_weight : ℕ
-max_weight = 120
 
 -- P is at most 2 ^ 120, and Q's magnitude at most P
 pub record IsBounded (x : Prob) : Type 0 where

@@ -1,7 +1,8 @@
 //! A probability over a power of 2, in least form.
 ghost use Rattle.std.specs.Prelude.{◌≡◌, ◌≢◌, ◌≤◌, IfSome, IfNone};
 ghost use Rattle.qh_prob.specs.declared.prob.Prob.{Prob};
-ghost use Rattle.qh_prob.specs.Probability.{IsBounded, max_weight, plus};
+ghost use Rattle.qh_limits.specs.Limits.{max_weight};
+ghost use Rattle.qh_prob.specs.Probability.{IsBounded, plus};
 ghost use Rattle.qh_prob.specs.Forms.{IsLeast};
 
 use crate::prob::Prob;

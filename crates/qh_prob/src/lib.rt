@@ -15,7 +15,7 @@ pub use laws::{
     one_line_one_probability, probabilities_add_up_to_one, probability_is_the_squared_magnitude,
 };
 pub use print::print_prob;
-pub use prob::{MAX_WEIGHT, Prob, all_probabilities};
+pub use prob::{Prob, all_probabilities};
 
 #[cfg(test)]
 mod tests;

@@ -1,19 +1,16 @@
 //! The probabilities of all basis indices.
 ghost use Rattle.std.specs.Prelude.{◌≡◌, ◌≤◌, ◌+ℤ◌, ◌-ℤ◌, ◌*ℤ◌, All, IfOk};
-ghost use Rattle.qh_limits.specs.Limits.{max_uncut_qubits};
+ghost use Rattle.qh_limits.specs.Limits.{max_uncut_qubits, max_weight};
 ghost use Rattle.qh_ring.specs.Numbers.{IsBelow, IsWithin};
 ghost use Rattle.qh_ring.specs.States.{listed};
 ghost use Rattle.qh_gates.specs.Circuits.{IsCircuit, total_weight};
 ghost use Rattle.qh_gates.specs.Evolution.{uncut};
-ghost use Rattle.qh_prob.specs.Probability.{IsBounded, certain, max_weight, probabilities, probability, total};
+ghost use Rattle.qh_prob.specs.Probability.{IsBounded, certain, probabilities, probability, total};
 
 use qh_gates::Circuit;
 use qh_ring::Omega;
 use qh_uncut::{UncutFault, evolve};
 use std::alloc::{AllocError, Global};
-
-/// The most gates with a factor 1/√2 that a circuit may have here.
-pub const MAX_WEIGHT: u32 = 120;
 
 /// The number P + Q√2. Over 2^k it is a probability.
 #[derive(Clone, Copy, PartialEq, Eq, Debug)]

@@ -2,9 +2,9 @@
 ghost use Rattle.std.specs.Prelude.{IfSome};
 ghost use Rattle.qh_prob.specs.Probability.{IsBounded};
 
-use crate::{MAX_WEIGHT, Prob, all_probabilities, least, print_prob};
+use crate::{Prob, all_probabilities, least, print_prob};
 use qh_gates::{Circuit, Gate, Kind, arity};
-use qh_limits::{MAX_QUBITS, MAX_UNCUT_QUBITS};
+use qh_limits::{MAX_QUBITS, MAX_UNCUT_QUBITS, MAX_WEIGHT};
 use std::alloc::{AllocError, Global};
 use std::process::Abort;
 use std::test::Fail;

@@ -2,6 +2,7 @@
 use Rattle.std.specs.Prelude.{◌≡◌, ◌+◌, ◌<◌, ◌≤◌, ℕ, List, length, take, drop, ⊤, Some, None}
 use Rattle.byteorder.specs.Endian.{big_number}
 use Rattle.qh_counts.specs.Counts.{Rose}
+use Rattle.qh_limits.specs.Limits.{max_job_bytes}
 use Rattle.qh_plan.specs.Jobs.{Job}
 use Rattle.qh_plan.specs.Plans.{IsPlanned}
 use Rattle.qh_disk.specs.Disk.{Face, IsSafe, Reads}
@@ -11,10 +12,6 @@ use Rattle.qh_slots.specs.declared.fault.AttachFault.{AttachFault}
 use Rattle.qh_slots.specs.declared.fault.AttachFault.TheVariants as attach
 use Rattle.qh_read_job.specs.declared.fault.JobFault.{JobFault}
 use Rattle.qh_read_job.specs.declared.fault.JobFault.TheVariants.{DiskFault, Empty, Unbegun, OldJournal, NotAJournal, NoJob, Memory}
-
--- the most bytes of a job text that is read
-abbrev pub max_job_bytes : ℕ
-max_job_bytes = 1048576
 
 -- how many bytes the job text of f is said to have
 abbrev pub told_length : List ℕ → ℕ

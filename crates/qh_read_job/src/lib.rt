@@ -8,7 +8,7 @@ mod fault;
 mod reading;
 
 pub use fault::JobFault;
-pub use reading::{MAX_JOB_BYTES, read_job};
+pub use reading::read_job;
 
 #[cfg(test)]
 mod tests;

@@ -10,13 +10,11 @@ use crate::fault::JobFault;
 use byteorder::{BigEndian, ByteOrder};
 use qh_disk::Disk;
 use qh_job_text::{JobTextFault, read_job_text};
+use qh_limits::MAX_JOB_BYTES;
 use qh_parts::{barrier, read_front};
 use qh_plan::Job;
 use qh_slots::{AttachFault, head, name_refusal};
 use std::alloc::Global;
-
-/// The most bytes of a job text that is read.
-pub const MAX_JOB_BYTES: u64 = 1_048_576;
 
 /// The bytes of a head before the job text.
 const NUMBERS: usize = 32;

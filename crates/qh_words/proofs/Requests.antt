@@ -8,8 +8,9 @@ use Rattle.std.proofs.lemmas.Option.{cond_some}
 use Rattle.clap.specs.Words.{Text, HasMatchesOf, fault_of}
 use Rattle.clap.specs.declared.parser.matches.ArgMatches.{ArgMatches}
 use Rattle.qh_words.specs.Command.{command, given, is_taken, program, value_in}
+use Rattle.qh_limits.specs.Limits.{max_lease, max_workers}
 use Rattle.qh_decimal.specs.Decimal.{is_decimal, number_below, value_of}
-use Rattle.qh_words.specs.Request.{HasWorkers, Values, asked, is_number, is_number_from, max_workers, most_lease, number_or, has_cut, has_journal, has_numbers, has_source, options_by, options_of}
+use Rattle.qh_words.specs.Request.{HasWorkers, Values, asked, is_number, is_number_from, number_or, has_cut, has_journal, has_numbers, has_source, options_by, options_of}
 use Rattle.qh_words.specs.Size.{IsGenSize}
 use Rattle.qh_words.specs.declared.options.Options.{Options}
 use Rattle.qh_words.proofs.Simple.{values}
@@ -41,7 +42,7 @@ has_workers value o h =
     let before_journal = both (has_numbers value && has_source value && has_cut value) (has_journal value) found.0 in
     let before_cut = both (has_numbers value && has_source value) (has_cut value) before_journal.0 in
     let numbers = both (has_numbers value) (has_source value) before_cut.0 in
-    let before_lease = both _ (is_number most_lease (value (codes "l"))) numbers.0 in
+    let before_lease = both _ (is_number max_lease (value (codes "l"))) numbers.0 in
     let workers = both _ (is_number_from 1 max_workers (value (codes "t"))) before_lease.0 in
     subst HasWorkers found.1 (number_between 1 max_workers (value (codes "t")) (omega arith) workers.1)
 

@@ -3,7 +3,7 @@ use Rattle.std.specs.Prelude.{ℕ, ◌+◌, ◌≤◌, ◌&&◌, ◌||◌, Bool,
 use Rattle.std.specs.Prelude.{bytes_eq, List, Option, Some, None, is_some, codes, option_map, option_and_then, if◌then◌else◌}
 use Rattle.std.specs.Option.{option_map_or}
 use Rattle.qh_decimal.specs.Decimal.{number_below, value_of}
-use Rattle.qh_limits.specs.Limits.{max_crossing}
+use Rattle.qh_limits.specs.Limits.{max_crossing, max_lease, max_workers}
 use Rattle.qh_words.specs.Command.{given, is_taken}
 use Rattle.qh_words.specs.Size.{size_of}
 use Rattle.qh_words.specs.declared.options.Options.{Options}
@@ -24,14 +24,6 @@ number_or default value = option_map_or value_of value default
 abbrev pub is_number_from : ℕ → ℕ → Option (List ℕ) → Bool
 is_number_from least most value = is_number most value && nat_le least (number_or least value)
 
--- the most workers of a run
-abbrev pub max_workers : ℕ
-max_workers = 16
-
--- the most seconds of a lease: a day
-abbrev pub most_lease : ℕ
-most_lease = 86400
-
 -- the flag is given
 abbrev pub is_set : Option (List ℕ) → Bool
 is_set value = option_map_or (λ text. bytes_eq text (codes "true")) value false
@@ -42,7 +34,7 @@ abbrev pub has_numbers : Values → Bool
 has_numbers value = is_number 4294967295 (value (codes "d")) && is_number max_crossing (value (codes "p"))
     && is_number max_crossing (value (codes "r")) && is_number 4294967295 (value (codes "w"))
     && is_number 4294967295 (value (codes "v")) && is_number_from 1 max_workers (value (codes "t"))
-    && is_number most_lease (value (codes "l"))
+    && is_number max_lease (value (codes "l"))
 
 -- a circuit and bitstrings from files, or a generated circuit whose size stands alone
 abbrev pub has_source : Values → Bool

@@ -2,20 +2,15 @@
 
 ghost use Rattle.std.specs.Prelude.{◌≡◌, IfSome, IsTrue, codes, is_some, option_map};
 ghost use Rattle.std.specs.Option.{SomeIff, option_copied};
+ghost use Rattle.qh_limits.specs.Limits.{max_lease, max_workers};
 ghost use Rattle.qh_decimal.specs.Decimal.{value_of};
 ghost use Rattle.qh_words.specs.Command.{value_in};
-ghost use Rattle.qh_words.specs.Request.{has_numbers, is_number, is_number_from, max_workers, most_lease, number_or};
+ghost use Rattle.qh_words.specs.Request.{has_numbers, is_number, is_number_from, number_or};
 
 use crate::command::value;
 use clap::ArgMatches;
 use qh_decimal::number_of;
-use qh_limits::MAX_CROSSING;
-
-/// The most workers of a run.
-const MAX_WORKERS: u32 = 16;
-
-/// The most seconds of a lease: a day.
-const MOST_LEASE: u32 = 86400;
+use qh_limits::{MAX_CROSSING, MAX_LEASE, MAX_WORKERS};
 
 /// The numbers that the options give or leave to their defaults.
 #[derive(Clone, Copy)]
@@ -95,9 +90,9 @@ fn read_workers(text: Option<&str>) -> Option<u32>
 /// The seconds of a lease, at most a day, or none where the option is absent.
 fn read_lease(text: Option<&str>) -> Option<Option<u64>>
     ensures { let value = option_copied text.entry in
-        SomeIff result (IsTrue (is_number most_lease value)) (option_map value_of value) }
+        SomeIff result (IsTrue (is_number max_lease value)) (option_map value_of value) }
 {
-    let Some(seconds) = read_optional(text, MOST_LEASE)? else {
+    let Some(seconds) = read_optional(text, MAX_LEASE)? else {
         return Some(None);
     };
     Some(Some(u64::from(seconds)))

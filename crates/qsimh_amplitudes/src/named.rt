@@ -67,7 +67,7 @@ pub fn named_files<'r, R: Files<File = File> + Print + Sync>(
         bits: FileSource::new(rt, names.bits.map(Text::into_string)),
         out: FileSink::new(rt, names.out.map(Text::into_string)),
         journal: FileDisk::new(rt, names.journal.map(Text::into_string)),
-        old: FileDisk::new(rt, names.old.map(Text::into_string)),
+        old: FileDisk::read_only(rt, names.old.map(Text::into_string)),
         lease: names.lease,
     })
 }

@@ -8,6 +8,8 @@ use std::test::Fail;
 
 const PATH: &str = "qh_disk_real_file";
 
+const OLD: &str = "qh_disk_old_file";
+
 #[derive(Clone, Copy, Debug)]
 enum Call {
     Length(u64),
@@ -89,5 +91,26 @@ fn a_file_that_cannot_be_opened_fails_each_call(rt: HostRuntime) -> Result<(), F
             assert_eq!(rt; answer, Err(Failed { faults }));
         }
     }
+    Ok(())
+}
+
+#[test]
+fn a_disk_for_reading_changes_nothing(rt: HostRuntime) -> Result<(), Fail> {
+    let mut missing = FileDisk::read_only(&rt, Some(OLD.to_string(rt.alloc())?));
+    assert_eq!(rt; missing.len(), Err(Failed { faults: 1 }), "it is missing");
+    assert!(rt; fs::remove_file(&rt, OLD).is_err(), "it is not made");
+    fs::write(&rt, OLD, b"kept".as_slice())?;
+    let rows = [
+        (Call::Length(4), Ok(true)),
+        (Call::SetLength(2), Err(Failed { faults: 1 })),
+        (Call::Write(1, b"X"), Err(Failed { faults: 2 })),
+        (Call::Length(4), Ok(true)),
+    ];
+    let mut old = FileDisk::read_only(&rt, Some(OLD.to_string(rt.alloc())?));
+    for (call, want) in rows {
+        let answer = is_so(&mut old, call);
+        assert_eq!(rt; answer, want, "{call:?}");
+    }
+    fs::remove_file(&rt, OLD)?;
     Ok(())
 }
