@@ -1,0 +1,2 @@
+-- What a call does to a sink, and what it says there.
+pub mod Saying

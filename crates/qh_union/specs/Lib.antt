@@ -1,0 +1,7 @@
+-- What a merge promises.
+pub mod Inputs
+pub mod Union
+pub mod Merging
+pub mod Parts
+pub mod Laws
+pub mod Gathered
