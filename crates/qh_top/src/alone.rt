@@ -8,13 +8,14 @@ ghost use Rattle.qh_record.specs.Record.{counted, taken_over, IfTold, slots_befo
 ghost use Rattle.qh_record.specs.Moments.{IsMade, OldIsMade, BeginsTrue, IsOldOrMade, IsOldOrGoesOn, StaysStable, IsEmptyAt, IsUnwritten, IsReadOnly};
 ghost use Rattle.qh_words.specs.declared.options.Options.{Options as OptionsValue};
 ghost use Rattle.qh_words.specs.declared.size.GenSize.{GenSize as Size};
-ghost use Rattle.qh_top.specs.Seen.{seen};
-ghost use Rattle.qh_top.specs.Jobs.{request, keeping, Asks, Takes};
-ghost use Rattle.qh_top.specs.Refusals.{Refuses, Reading, RefusesAll, SourceRises, JournalRefuses};
-ghost use Rattle.qh_top.specs.Request.{Prints, PrintsAsked, RunIsWhole, EndsWhole, EndsEarly, Answers, FaultCame, FaultFirst};
-ghost use Rattle.qh_top.specs.declared.stop.Refusal.{Refusal as RefusalValue};
-ghost use Rattle.qh_top.specs.declared.stop.JournalRefusal.{JournalRefusal as JournalRefusalValue};
-ghost use Rattle.qh_top.specs.Stops.{MayStop, Says, Stops};
+ghost use Rattle.qh_tell.specs.Seen.{seen};
+ghost use Rattle.qh_request.specs.Jobs.{request, keeping, Asks, Takes};
+ghost use Rattle.qh_request.specs.Refusals.{Refuses, Reading, RefusesAll, SourceRises, JournalRefuses};
+ghost use Rattle.qh_request.specs.Request.{Prints, PrintsAsked, RunIsWhole, EndsWhole, EndsEarly, Answers, FaultCame, FaultFirst};
+ghost use Rattle.qh_tell.specs.declared.stop.Refusal.{Refusal as RefusalValue};
+ghost use Rattle.qh_tell.specs.declared.stop.JournalRefusal.{JournalRefusal as JournalRefusalValue};
+ghost use Rattle.qh_request.specs.Outcomes.{MayStop, Stops};
+ghost use Rattle.qh_tell.specs.Stops.{Says};
 
 use crate::call::answered;
 use qh_disk::Disk;

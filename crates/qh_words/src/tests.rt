@@ -78,6 +78,11 @@ fn refuses_what_is_no_request(rt: HostRuntime) {
         "-c a -i b -k 0 -j f -f g",
         "-c a -i b -k 0 -j f --ne",
         "-c a -i b -k 0 --j f",
+        "-c a -i b -k 0 --prob",
+        "--prob -g 1,2,2,3 -k auto",
+        "-c a -i b --prob --prob",
+        "-c a -i b --prob=true",
+        "-c a --prob",
     ] {
         assert!(rt;
             read(rt.alloc(), line).err() == Some(WordsFault::Usage),

@@ -1,7 +1,7 @@
 use Rattle.qh_counts.specs.Counts.{RoseBy}
-use Rattle.qh_top.specs.Seen.{seen}
-use Rattle.qh_top.proofs.Journals.{keeps_asked, stays_stable, unwritten_refused, old_is_read, disk_runs, old_runs, reached_job}
-use Rattle.qh_top.proofs.Ends.{whole_run, whole_asked, exact_asked, unwritten_by, usage_answer, only_usage, refused_asked, words_refused, journal_refused, completes}
+use Rattle.qh_tell.specs.Seen.{seen}
+use Rattle.qh_request.proofs.Journals.{keeps_asked, stays_stable, unwritten_refused, old_is_read, disk_runs, old_runs, reached_job}
+use Rattle.qh_request.proofs.Ends.{whole_run, whole_asked, exact_asked, unwritten_by, usage_answer, only_usage, refused_asked, words_refused, journal_refused, completes}
 use Rattle.qh_top.proofs.alone.qsimh_alone.Goals as goal
 
 pub returns-clause-journal : goal.returns-clause-journal
