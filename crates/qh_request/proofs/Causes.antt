@@ -1,8 +1,9 @@
 -- What causes exclude and give.
-use Rattle.std.proofs.Common.{◌≡◌, ℕ, ◌^◌, ◌<◌, ◌≤◌, ◌≢◌, ◌⊎◌, inl, inr, List, ◌++◌, length, map, Some, None, Ok, Err, Result, IfSome, IsSomeAnd, refl, sym, ap, subst, ◌∙◌, arith, append-nil}
+use Rattle.std.proofs.Common.{◌≡◌, ℕ, ◌^◌, ◌<◌, ◌≤◌, ◌≢◌, ◌⊎◌, inl, inr, List, ◌++◌, length, map, Bool, true, false, Some, None, Ok, Err, Result, IfSome, IsSomeAnd, refl, sym, ap, subst, ◌∙◌, arith, append-nil}
+use Rattle.std.proofs.lemmas.Bool.{false≢true}
 use Rattle.std.proofs.lemmas.List.{ext_get_or}
 use Rattle.std.specs.declared.option.Option.{Option}
-use Rattle.qh_gates.specs.Circuits.{Circuit}
+use Rattle.qh_gates.specs.Circuits.{Circuit, total_weight}
 use Rattle.qh_circuit.specs.Texts.{FaultyLine}
 use Rattle.qh_bits.specs.Texts.{bits_of}
 use Rattle.qh_text.specs.Bitstrings.{index_of}
@@ -17,13 +18,13 @@ use Rattle.qh_disk.specs.Disk.{Face}
 use Rattle.qh_words.specs.declared.options.Options.{Options}
 use Rattle.qh_words.specs.declared.size.GenSize.{GenSize}
 use Rattle.qh_tell.specs.Seen.{Seen, Rises}
-use Rattle.qh_request.specs.Inputs.{IsCircuitFile, IsRead, IsGenerated, IsInput, HasInput, first_indices}
-use Rattle.qh_request.specs.Answer.{IsAnswerBy}
+use Rattle.qh_request.specs.Inputs.{IsCircuitFile, IsBitsFile, IsRead, IsGenerated, IsInput, HasInput, first_indices}
+use Rattle.qh_request.specs.Answer.{IsWholeAnswer, IsAnswerBy}
 use Rattle.qh_request.specs.Jobs.{IsPlannedJob, Takes, keeping}
 use Rattle.qh_plan.specs.declared.verdict.Verdict.TheVariants.{Over}
-use Rattle.qh_request.specs.Refusals.{PlanRefusesBy, PlanRefuses, FilesRefuse, SizeRefuses, RefusesBy, Refuses, FilesReading, ReadingBy, Reading, SourceRises, RefusesAll, IsOfWords}
+use Rattle.qh_request.specs.Refusals.{PlanRefusesBy, PlanRefuses, IsTooDeep, CircuitRefuses, FilesHold, FilesRefuse, SizeRefuses, RefusesBy, Refuses, FilesReading, ReadingBy, Reading, SourceRises, RefusesAll, IsOfWords}
 use Rattle.qh_tell.specs.declared.stop.Refusal.{Refusal}
-use Rattle.qh_tell.specs.declared.stop.Refusal.TheVariants.{CircuitTooLong, CircuitLine, BitsTooLong, BitsLine, Plan}
+use Rattle.qh_tell.specs.declared.stop.Refusal.TheVariants.{CircuitTooLong, CircuitLine, BitsTooLong, BitsLine, Plan, ProbTooDeep}
 use Rattle.qh_tell.specs.declared.stop.Input.TheVariants.{OfCircuit, OfBits}
 use Rattle.qh_tell.specs.declared.stop.Stop.{Stop}
 use Rattle.qh_tell.specs.declared.stop.Stop.TheVariants.{Usage, Refused, OverflowGate, OverflowPath, ReadFault, DiskFault, WriteFault, Memory, Journal}
@@ -103,21 +104,52 @@ planned_not_refused o part c xs j p fault (inr h) =
     none_some (first_fault c h.0 o.p o.r o.w xs) fault
     (ap (λ items. first_fault c items o.p o.r o.w xs) (one_numbers (items_of part) h.0 p.items h.1 p.numbers) ∙ p.accepted) h.2
 
-pub narrow_not_refused : (o : Options) (c : Circuit) (xs : List ℕ) → c.qubits ≤ 16 → (fault : PlanFault) → PlanRefusesBy None o c xs fault → ⊥
+pub planned_part_not_refused : (o : Options) (part : List ℕ) (c : Circuit) (xs : List ℕ) (j : Job) → o.part ≡ Some part → IsPlannedJob o part c xs j → (r : Refusal) → CircuitRefuses o r c xs → ⊥
+planned_part_not_refused o part c xs j e p CircuitTooLong h = h
+planned_part_not_refused o part c xs j e p (CircuitLine line why) h = h
+planned_part_not_refused o part c xs j e p BitsTooLong h = h
+planned_part_not_refused o part c xs j e p (BitsLine line why) h = h
+planned_part_not_refused o part c xs j e p (Plan fault) h = planned_not_refused o part c xs j p fault (subst (λ q. PlanRefusesBy q o c xs fault) e h)
+planned_part_not_refused o part c xs j e p (ProbTooDeep weight) h = none_some o.part part h.uncut e
+
+narrow_not_refused : (o : Options) (c : Circuit) (xs : List ℕ) → c.qubits ≤ 16 → (fault : PlanFault) → PlanRefusesBy None o c xs fault → ⊥
 narrow_not_refused o c xs l fault h = too_long c.qubits 16 l h.1
 
+-- a circuit of at most 16 qubits is not refused where amplitudes are asked for
+pub amplitudes_not_refused : (o : Options) (c : Circuit) (xs : List ℕ) → o.part ≡ None → o.prob ≡ false → c.qubits ≤ 16 → (r : Refusal) → CircuitRefuses o r c xs → ⊥
+amplitudes_not_refused o c xs e off l CircuitTooLong h = h
+amplitudes_not_refused o c xs e off l (CircuitLine line why) h = h
+amplitudes_not_refused o c xs e off l BitsTooLong h = h
+amplitudes_not_refused o c xs e off l (BitsLine line why) h = h
+amplitudes_not_refused o c xs e off l (Plan fault) h = narrow_not_refused o c xs l fault (subst (λ q. PlanRefusesBy q o c xs fault) e h)
+amplitudes_not_refused o c xs e off l (ProbTooDeep weight) h = false≢true (sym off ∙ h.asked)
+
+-- nor one whose weight is at most 120
+pub shallow_not_refused : (o : Options) (c : Circuit) (xs : List ℕ) → o.part ≡ None → c.qubits ≤ 16 → total_weight c.gates ≤ 120 → (r : Refusal) → CircuitRefuses o r c xs → ⊥
+shallow_not_refused o c xs e l low CircuitTooLong h = h
+shallow_not_refused o c xs e l low (CircuitLine line why) h = h
+shallow_not_refused o c xs e l low BitsTooLong h = h
+shallow_not_refused o c xs e l low (BitsLine line why) h = h
+shallow_not_refused o c xs e l low (Plan fault) h = narrow_not_refused o c xs l fault (subst (λ q. PlanRefusesBy q o c xs fault) e h)
+shallow_not_refused o c xs e l low (ProbTooDeep weight) h = too_long weight 120 (subst (λ n. n ≤ 120) (sym h.weight_is) low) h.deep
+
+whole_not_refused : (prob : Bool) (o : Options) (c : Circuit) (xs : List ℕ) (strings : List (List ℕ)) (text : List ℕ) → o.prob ≡ prob → o.part ≡ None
+    → IsWholeAnswer prob o.generated c strings text → (r : Refusal) → CircuitRefuses o r c xs → ⊥
+whole_not_refused true o c xs strings text on e a r h = shallow_not_refused o c xs e a.narrow a.shallow r h
+whole_not_refused false o c xs strings text off e a r h = amplitudes_not_refused o c xs e off a.narrow r h
+
 -- what is answered is not refused
-pub answered_not_refused : (part : Option (List ℕ)) (o : Options) (after : Face) (c : Circuit) (xs : List ℕ) (strings : List (List ℕ)) (text : List ℕ) → map index_of strings ≡ xs
-    → IsAnswerBy part o after c strings text → (fault : PlanFault) → PlanRefusesBy part o c xs fault → ⊥
-answered_not_refused None o after c xs strings text e a fault h = narrow_not_refused o c xs a.narrow fault h
-answered_not_refused (Some part) o after c xs strings text e a fault h =
-    planned_not_refused o part c xs a.job (subst (λ ys. IsPlannedJob o part c ys a.job) e a.planned) fault h
+pub answered_not_refused : (part : Option (List ℕ)) (o : Options) (after : Face) (c : Circuit) (xs : List ℕ) (strings : List (List ℕ)) (text : List ℕ) → o.part ≡ part
+    → map index_of strings ≡ xs → IsAnswerBy part o after c strings text → (r : Refusal) → CircuitRefuses o r c xs → ⊥
+answered_not_refused None o after c xs strings text q e a r h = whole_not_refused o.prob o c xs strings text refl q a r h
+answered_not_refused (Some part) o after c xs strings text q e a r h =
+    planned_part_not_refused o part c xs a.job q (subst (λ ys. IsPlannedJob o part c ys a.job) e a.planned) r h
 
 -- what was printed is not refused
 printed_not_refused : (o : Options) (circuit bits out : Seen) (after : Face) (front : List ℕ → List ℕ) (p : Prints o circuit bits out after front)
-    (fault : PlanFault) → PlanRefuses o p.value p.indices fault → ⊥
-printed_not_refused o circuit bits out after front p fault h =
-    answered_not_refused o.part o after p.value p.indices _ p.text (asked_indices o.max_time circuit bits p.value p.indices o.generated p.input) p.answer fault h
+    (r : Refusal) → CircuitRefuses o r p.value p.indices → ⊥
+printed_not_refused o circuit bits out after front p r h =
+    answered_not_refused o.part o after p.value p.indices _ p.text refl (asked_indices o.max_time circuit bits p.value p.indices o.generated p.input) p.answer r h
 
 -- the stop of a plan's fault
 pub plan_stops : (P : PlanFault → Type 0) (fault : PlanFault) → (fault ≢ PlanMemory → P fault) → PlanMayStop P (stop_of fault)
@@ -135,9 +167,18 @@ plan_stops P (JournalTooLong bytes) h = h (λ e. cc)
 plan_stops P (UncutTooWide qubits) h = h (λ e. cc)
 plan_stops P PlanMemory h = tt
 
--- ---- an input that was taken is not refused where the plan does not refuse it
+-- ---- an input that was taken is not refused where its circuit is not
 module _ (o : Options) (circuit bits : Seen) where
-  files_not_refused : (c : Circuit) (xs : List ℕ) → IsRead o.max_time circuit bits c xs → ((fault : PlanFault) → PlanRefuses o c xs fault → ⊥)
+  held : (c : Circuit) (xs : List ℕ) → IsRead o.max_time circuit bits c xs → (P : Circuit → List ℕ → Type 0)
+      → FilesHold (λ known P. IsSomeAnd known P) o.max_time P circuit.before bits.before → P c xs
+  held c xs a P h =
+      let t = read_told circuit.before circuit.after a.circuit_bytes _ a.circuit_read h in
+      let same = same_circuit _ _ _ a.circuit_file.read t.1.read in
+      let u = read_told bits.before bits.after a.bits_bytes _ a.bits_read t.2 in
+      let these = same_bits _ _ _ (sym (ap (λ (c : Circuit). bits_of c.qubits a.bits_bytes) same) ∙ a.bits_file.read) u.1.read in
+      subst (λ ys. P c ys) (sym these) (subst (λ d. P d u.0) (sym same) u.2)
+
+  files_not_refused : (c : Circuit) (xs : List ℕ) → IsRead o.max_time circuit bits c xs → ((r : Refusal) → CircuitRefuses o r c xs → ⊥)
       → (r : Refusal) → FilesRefuse (λ known P. IsSomeAnd known P) o r circuit.before bits.before → ⊥
   files_not_refused c xs a ok CircuitTooLong h =
       too_long _ _ a.circuit_file.short (read_told circuit.before circuit.after a.circuit_bytes (λ bytes. 2 ^ 20 < length bytes) a.circuit_read h)
@@ -151,23 +192,14 @@ module _ (o : Options) (circuit bits : Seen) where
       let same = same_circuit _ _ _ a.circuit_file.read t.1.read in
       let u = read_told bits.before bits.after a.bits_bytes _ a.bits_read t.2 in
       bits_clash _ _ _ (sym (ap (λ (c : Circuit). bits_of c.qubits a.bits_bytes) same) ∙ a.bits_file.read) u.1
-  files_not_refused c xs a ok (Plan fault) h =
-      let t = read_told circuit.before circuit.after a.circuit_bytes _ a.circuit_read h in
-      let same = same_circuit _ _ _ a.circuit_file.read t.1.read in
-      let u = read_told bits.before bits.after a.bits_bytes _ a.bits_read t.2 in
-      let these = same_bits _ _ _ (sym (ap (λ (c : Circuit). bits_of c.qubits a.bits_bytes) same) ∙ a.bits_file.read) u.1.read in
-      ok fault (subst (λ ys. PlanRefuses o c ys fault) (sym these) (subst (λ d. PlanRefuses o d u.0 fault) (sym same) u.2))
+  files_not_refused c xs a ok (Plan fault) h = ok (Plan fault) (held c xs a (CircuitRefuses o (Plan fault)) h)
+  files_not_refused c xs a ok (ProbTooDeep weight) h = ok (ProbTooDeep weight) (held c xs a (CircuitRefuses o (ProbTooDeep weight)) h)
 
-  size_not_refused : (size : GenSize) (c : Circuit) (xs : List ℕ) → IsGenerated size c xs → ((fault : PlanFault) → PlanRefuses o c xs fault → ⊥) → (r : Refusal) → SizeRefuses o size r → ⊥
-  size_not_refused size c xs a ok CircuitTooLong h = h
-  size_not_refused size c xs a ok (CircuitLine line why) h = h
-  size_not_refused size c xs a ok BitsTooLong h = h
-  size_not_refused size c xs a ok (BitsLine line why) h = h
-  size_not_refused size c xs a ok (Plan fault) h =
-      ok fault (subst (λ ys. PlanRefuses o c ys fault) (sym a.indices)
-      (subst (λ d. PlanRefuses o d (first_indices d.qubits) fault) (sym a.circuit) h))
+  size_not_refused : (size : GenSize) (c : Circuit) (xs : List ℕ) → IsGenerated size c xs → ((r : Refusal) → CircuitRefuses o r c xs → ⊥) → (r : Refusal) → SizeRefuses o size r → ⊥
+  size_not_refused size c xs a ok r h =
+      ok r (subst (λ ys. CircuitRefuses o r c ys) (sym a.indices) (subst (λ d. CircuitRefuses o r d (first_indices d.qubits)) (sym a.circuit) h))
 
-  pub input_not_refused : (g : Option GenSize) (c : Circuit) (xs : List ℕ) → IsInput g o.max_time circuit bits c xs → ((fault : PlanFault) → PlanRefuses o c xs fault → ⊥)
+  pub input_not_refused : (g : Option GenSize) (c : Circuit) (xs : List ℕ) → IsInput g o.max_time circuit bits c xs → ((r : Refusal) → CircuitRefuses o r c xs → ⊥)
       → (r : Refusal) → RefusesBy g (λ known P. IsSomeAnd known P) o r circuit.before bits.before → ⊥
   input_not_refused None c xs a ok r h = files_not_refused c xs a ok r h
   input_not_refused (Some size) c xs a ok r h = size_not_refused size c xs a ok r h
@@ -179,6 +211,7 @@ files_refuse o circuit bits (CircuitLine line why) h = h
 files_refuse o circuit bits BitsTooLong h = h
 files_refuse o circuit bits (BitsLine line why) h = h
 files_refuse o circuit bits (Plan fault) h = absurd h
+files_refuse o circuit bits (ProbTooDeep weight) h = absurd h
 
 files_words : (o : Options) (circuit bits : Seen) (r : Refusal) → o.generated ≡ None → FilesMayStop o.max_time circuit bits (Refused r) → IsOfWords o r
 files_words o circuit bits CircuitTooLong e h = e
@@ -186,6 +219,7 @@ files_words o circuit bits (CircuitLine line why) e h = e
 files_words o circuit bits BitsTooLong e h = e
 files_words o circuit bits (BitsLine line why) e h = e
 files_words o circuit bits (Plan fault) e h = absurd h
+files_words o circuit bits (ProbTooDeep weight) e h = absurd h
 
 pub input_cause : (o : Options) (circuit bits out : Seen) (disk after old old_after : Face) (g : Option GenSize) → o.generated ≡ g → (stop : Stop) → InputMayStop g o.max_time circuit bits stop → MayStopBy o circuit bits out disk after old old_after stop
 input_cause o circuit bits out disk after old old_after None e Usage h = absurd h
@@ -200,18 +234,33 @@ input_cause o circuit bits out disk after old old_after None e (Journal r) h = a
 input_cause o circuit bits out disk after old old_after None e Memory h = tt
 input_cause o circuit bits out disk after old old_after (Some size) e stop h = subst (MayStopBy o circuit bits out disk after old old_after) (sym h) tt
 
--- a refusal of the plan is one of the request
-plan_refused : (o : Options) (circuit bits : Seen) (g : Option GenSize) (c : Circuit) (xs : List ℕ) → IsInput g o.max_time circuit bits c xs → (fault : PlanFault) → PlanRefuses o c xs fault
-    → RefusesBy g (λ known P. IfSome known P) o (Plan fault) circuit.before bits.before
-plan_refused o circuit bits None c xs a fault h =
+-- a refusal of the circuit is one of the request
+files_hold : (T : ℕ) (circuit bits : Seen) (c : Circuit) (xs : List ℕ) → IsRead T circuit bits c xs → (P : Circuit → List ℕ → Type 0) → P c xs
+    → FilesHold (λ known P. IfSome known P) T P circuit.before bits.before
+files_hold T circuit bits c xs a P h =
     read_holds circuit.before circuit.after a.circuit_bytes _ a.circuit_read
     (c, a.circuit_file, read_holds bits.before bits.after a.bits_bytes _ a.bits_read (xs, a.bits_file, h))
-plan_refused o circuit bits (Some size) c xs a fault h =
-    subst (λ d. PlanRefuses o d (first_indices d.qubits) fault) a.circuit (subst (λ ys. PlanRefuses o c ys fault) a.indices h)
+
+size_refuses : (o : Options) (size : GenSize) (c : Circuit) (xs : List ℕ) → IsGenerated size c xs → (r : Refusal) → CircuitRefuses o r c xs → SizeRefuses o size r
+size_refuses o size c xs a r h = subst (λ d. CircuitRefuses o r d (first_indices d.qubits)) a.circuit (subst (λ ys. CircuitRefuses o r c ys) a.indices h)
+
+plan_refused : (o : Options) (circuit bits : Seen) (g : Option GenSize) (c : Circuit) (xs : List ℕ) → IsInput g o.max_time circuit bits c xs → (fault : PlanFault) → PlanRefuses o c xs fault
+    → RefusesBy g (λ known P. IfSome known P) o (Plan fault) circuit.before bits.before
+plan_refused o circuit bits None c xs a fault h = files_hold o.max_time circuit bits c xs a (CircuitRefuses o (Plan fault)) h
+plan_refused o circuit bits (Some size) c xs a fault h = size_refuses o size c xs a (Plan fault) h
+
+deep_refused : (o : Options) (circuit bits : Seen) (g : Option GenSize) (c : Circuit) (xs : List ℕ) → IsInput g o.max_time circuit bits c xs → (weight : ℕ) → IsTooDeep o c weight
+    → RefusesBy g (λ known P. IfSome known P) o (ProbTooDeep weight) circuit.before bits.before
+deep_refused o circuit bits None c xs a weight h = files_hold o.max_time circuit bits c xs a (CircuitRefuses o (ProbTooDeep weight)) h
+deep_refused o circuit bits (Some size) c xs a weight h = size_refuses o size c xs a (ProbTooDeep weight) h
 
 plan_cause : (o : Options) (circuit bits : Seen) (c : Circuit) (xs : List ℕ) → IsInput o.generated o.max_time circuit bits c xs → (fault : PlanFault) → PlanRefuses o c xs fault
     → IsOfWords o (Plan fault) × Refuses (λ known P. IfSome known P) o (Plan fault) circuit.before bits.before
 plan_cause o circuit bits c xs a fault h = (words_of_plan o.part o c xs fault h, plan_refused o circuit bits o.generated c xs a fault h)
+
+deep_cause : (o : Options) (circuit bits : Seen) (c : Circuit) (xs : List ℕ) → IsInput o.generated o.max_time circuit bits c xs → (weight : ℕ) → IsTooDeep o c weight
+    → IsOfWords o (ProbTooDeep weight) × Refuses (λ known P. IfSome known P) o (ProbTooDeep weight) circuit.before bits.before
+deep_cause o circuit bits c xs a weight h = ((h.asked, h.uncut), deep_refused o circuit bits o.generated c xs a weight h)
 
 -- the job of a plan over an input that was taken
 pub taken_job : (o : Options) (circuit bits : Seen) (c : Circuit) (xs : List ℕ) → IsInput o.generated o.max_time circuit bits c xs
@@ -232,7 +281,7 @@ overflows o circuit bits disk after old Granted path j t r = record {
 }
 
 uncut_cause : (o : Options) (circuit bits out : Seen) (disk after old old_after : Face) (c : Circuit) (xs : List ℕ) → IsInput o.generated o.max_time circuit bits c xs
-    → o.part ≡ None → (stop : Stop) → UncutMayStop c stop → MayStopBy o circuit bits out disk after old old_after stop
+    → o.part ≡ None → (stop : Stop) → UncutMayStop o.prob c stop → MayStopBy o circuit bits out disk after old old_after stop
 uncut_cause o circuit bits out disk after old old_after c xs a e Usage h = absurd h
 uncut_cause o circuit bits out disk after old old_after c xs a e (Refused CircuitTooLong) h = absurd h
 uncut_cause o circuit bits out disk after old old_after c xs a e (Refused (CircuitLine line why)) h = absurd h
@@ -240,7 +289,10 @@ uncut_cause o circuit bits out disk after old old_after c xs a e (Refused BitsTo
 uncut_cause o circuit bits out disk after old old_after c xs a e (Refused (BitsLine line why)) h = absurd h
 uncut_cause o circuit bits out disk after old old_after c xs a e (Refused (Plan fault)) h =
     plan_cause o circuit bits c xs a fault (subst (λ p. PlanRefusesBy p o c xs fault) (sym e) h)
-uncut_cause o circuit bits out disk after old old_after c xs a e (OverflowGate gate) h = record { value = c; indices = xs; input = a; uncut = e; narrow = h.0; over = h.1 }
+uncut_cause o circuit bits out disk after old old_after c xs a e (Refused (ProbTooDeep weight)) h =
+    deep_cause o circuit bits c xs a weight (record { asked = h.0; uncut = e; narrow = h.1; weight_is = h.2; deep = h.3 })
+uncut_cause o circuit bits out disk after old old_after c xs a e (OverflowGate gate) h =
+    record { value = c; indices = xs; input = a; uncut = e; amplitudes = h.0; narrow = h.1; over = h.2 }
 uncut_cause o circuit bits out disk after old old_after c xs a e (OverflowPath path) h = absurd h
 uncut_cause o circuit bits out disk after old old_after c xs a e (ReadFault input) h = absurd h
 uncut_cause o circuit bits out disk after old old_after c xs a e DiskFault h = absurd h
@@ -258,6 +310,7 @@ cut_cause o circuit bits out disk after old old_after Granted c xs a part e (Ref
 cut_cause o circuit bits out disk after old old_after Granted c xs a part e (Refused (BitsLine line why)) h = absurd h.stops
 cut_cause o circuit bits out disk after old old_after Granted c xs a part e (Refused (Plan fault)) h =
     plan_cause o circuit bits c xs a fault (subst (λ p. PlanRefusesBy p o c xs fault) (sym e) h)
+cut_cause o circuit bits out disk after old old_after Granted c xs a part e (Refused (ProbTooDeep weight)) h = absurd h.stops
 cut_cause o circuit bits out disk after old old_after Granted c xs a part e (OverflowGate gate) h = absurd h.stops
 cut_cause o circuit bits out disk after old old_after Granted c xs a part e (OverflowPath path) h =
     overflows o circuit bits disk after old Granted path h.job (taken_job o circuit bits c xs a part e h.job h.planned) h.stops
@@ -280,6 +333,7 @@ reading_circuit circuit bits (CircuitLine line why) rose = rose
 reading_circuit circuit bits BitsTooLong rose = inl rose
 reading_circuit circuit bits (BitsLine line why) rose = inl rose
 reading_circuit circuit bits (Plan fault) rose = inl rose
+reading_circuit circuit bits (ProbTooDeep weight) rose = inl rose
 
 both : (o : Option (List ℕ)) (P Q : List ℕ → Type 0) (R : Type 0) → IfSome o P → IsSomeAnd o Q → ((xs : List ℕ) → P xs → Q xs → R) → R
 both None P Q R p q f = absurd q
@@ -294,6 +348,7 @@ reading_bits o circuit bits (CircuitLine line why) rose any h =
 reading_bits o circuit bits BitsTooLong rose any h = inr rose
 reading_bits o circuit bits (BitsLine line why) rose any h = inr rose
 reading_bits o circuit bits (Plan fault) rose any h = inr rose
+reading_bits o circuit bits (ProbTooDeep weight) rose any h = inr rose
 
 read_fault : (o : Options) (circuit bits : Seen) (status : ℕ) (g : Option GenSize) → o.generated ≡ g → status ≡ 4 → o.generated ≡ None → (r : Refusal)
     → (FilesRefuse (λ known P. IsSomeAnd known P) o r circuit.before bits.before → FilesReading circuit bits r)
@@ -305,12 +360,12 @@ read_fault o circuit bits status (Some size) e s none r f h = absurd (none_some 
 taken_not_refused : (o : Options) (circuit bits : Seen) (j : Job) → Takes o circuit bits j → (r : Refusal) → Refuses (λ known P. IsSomeAnd known P) o r circuit.before bits.before → ⊥
 taken_not_refused o circuit bits j t r h =
     input_not_refused o circuit bits o.generated t.value t.indices t.input
-    (λ fault p. planned_not_refused o t.part t.value t.indices j t.planned fault (subst (λ q. PlanRefusesBy q o t.value t.indices fault) t.cut p)) r h
+    (planned_part_not_refused o t.part t.value t.indices j t.cut t.planned) r h
 
 pub taken_not_words : (o : Options) (circuit bits : Seen) (j : Job) → Takes o circuit bits j → RefusesAll o → ⊥
 taken_not_words o circuit bits j t all =
     let f = all t.value t.indices in
-    planned_not_refused o t.part t.value t.indices j t.planned f.0 (subst (λ q. PlanRefusesBy q o t.value t.indices f.0) t.cut f.1)
+    planned_part_not_refused o t.part t.value t.indices j t.cut t.planned f.0 f.1
 
 pub refused_answer : (o : Options) (status : ℕ) (circuit bits out : Seen) (disk after old old_after : Face) (stop : Stop) → status ≡ status_of stop → MayStopBy o circuit bits out disk after old old_after stop
     → (r : Refusal) → Refuses (λ known P. IsSomeAnd known P) o r circuit.before bits.before
@@ -319,7 +374,7 @@ refused_answer o status circuit bits out disk after old old_after Usage e m r h 
 refused_answer o status circuit bits out disk after old old_after (Refused s) e m r h = inl e
 refused_answer o status circuit bits out disk after old old_after (OverflowGate gate) e m r h =
     absurd (input_not_refused o circuit bits o.generated m.value m.indices m.input
-    (λ fault p. narrow_not_refused o m.value m.indices m.narrow fault (subst (λ q. PlanRefusesBy q o m.value m.indices fault) m.uncut p)) r h)
+    (amplitudes_not_refused o m.value m.indices m.uncut m.amplitudes m.narrow) r h)
 refused_answer o status circuit bits out disk after old old_after (OverflowPath path) e m r h =
     absurd (taken_not_refused o circuit bits m.job m.taken r h)
 refused_answer o status circuit bits out disk after old old_after (ReadFault OfCircuit) e m r h =
@@ -342,7 +397,7 @@ words_answer o status circuit bits out disk after old old_after Usage e m all = 
 words_answer o status circuit bits out disk after old old_after (Refused s) e m all = inl e
 words_answer o status circuit bits out disk after old old_after (OverflowGate gate) e m all =
     let f = all m.value m.indices in
-    absurd (narrow_not_refused o m.value m.indices m.narrow f.0 (subst (λ q. PlanRefusesBy q o m.value m.indices f.0) m.uncut f.1))
+    absurd (amplitudes_not_refused o m.value m.indices m.uncut m.amplitudes m.narrow f.0 f.1)
 words_answer o status circuit bits out disk after old old_after (OverflowPath path) e m all = absurd (taken_not_words o circuit bits m.job m.taken all)
 words_answer o status circuit bits out disk after old old_after DiskFault e m all = absurd (taken_not_words o circuit bits m.0.0 m.0.1 all)
 words_answer o status circuit bits out disk after old old_after (Journal s) e m all = absurd (taken_not_words o circuit bits m.0 m.1 all)
@@ -354,8 +409,15 @@ words_answer o status circuit bits out disk after old old_after (WriteFault n) e
 words_answer o status circuit bits out disk after old old_after Memory e m all = inr (inl e)
 
 -- ---- how an accepted request stops where no fault came
+accepted_held : (T : ℕ) (cb bb : List ℕ) (c : Circuit) (xs : List ℕ) → IsCircuitFile T c cb → IsBitsFile c xs bb → (P : Circuit → List ℕ → Type 0)
+    → FilesHold (λ known P. IfSome known P) T P (Some cb) (Some bb) → P c xs
+accepted_held T cb bb c xs d e P h =
+    let same = same_circuit _ _ _ d.read h.1.read in
+    let these = same_bits _ _ _ (sym (ap (λ (c : Circuit). bits_of c.qubits bb) same) ∙ e.read) h.2.1.read in
+    subst (λ ys. P c ys) (sym these) (subst (λ d. P d h.2.0) (sym same) h.2.2)
+
 pub accepted_not_refused : (o : Options) (circuit bits : Option (List ℕ)) (g : Option GenSize) (c : Circuit) (xs : List ℕ) → HasInput g o.max_time circuit bits c xs
-    → ((fault : PlanFault) → PlanRefuses o c xs fault → ⊥) → (r : Refusal) → RefusesBy g (λ known P. IfSome known P) o r circuit bits → ⊥
+    → ((r : Refusal) → CircuitRefuses o r c xs → ⊥) → (r : Refusal) → RefusesBy g (λ known P. IfSome known P) o r circuit bits → ⊥
 accepted_not_refused o None bits None c xs a ok r h = absurd a.0
 accepted_not_refused o (Some cb) None None c xs a ok r h = absurd a.1
 accepted_not_refused o (Some cb) (Some bb) None c xs a ok CircuitTooLong h = too_long _ _ a.0.short h
@@ -364,20 +426,11 @@ accepted_not_refused o (Some cb) (Some bb) None c xs a ok BitsTooLong h = too_lo
 accepted_not_refused o (Some cb) (Some bb) None c xs a ok (BitsLine line why) h =
     let same = same_circuit _ _ _ a.0.read h.1.read in
     bits_clash _ _ _ (sym (ap (λ (c : Circuit). bits_of c.qubits bb) same) ∙ a.1.read) h.2.1
-accepted_not_refused o (Some cb) (Some bb) None c xs a ok (Plan fault) h =
-    let same = same_circuit _ _ _ a.0.read h.1.read in
-    let these = same_bits _ _ _ (sym (ap (λ (c : Circuit). bits_of c.qubits bb) same) ∙ a.1.read) h.2.1.read in
-    ok fault (subst (λ ys. PlanRefuses o c ys fault) (sym these) (subst (λ d. PlanRefuses o d h.2.0 fault) (sym same) h.2.2))
-accepted_not_refused o circuit bits (Some size) c xs a ok r h = by_size r h
-  where
-    by_size : (r : Refusal) → SizeRefuses o size r → ⊥
-    by_size CircuitTooLong h = h
-    by_size (CircuitLine line why) h = h
-    by_size BitsTooLong h = h
-    by_size (BitsLine line why) h = h
-    by_size (Plan fault) h =
-        ok fault (subst (λ ys. PlanRefuses o c ys fault) (sym a.indices)
-        (subst (λ d. PlanRefuses o d (first_indices d.qubits) fault) (sym a.circuit) h))
+accepted_not_refused o (Some cb) (Some bb) None c xs a ok (Plan fault) h = ok (Plan fault) (accepted_held o.max_time cb bb c xs a.0 a.1 (CircuitRefuses o (Plan fault)) h)
+accepted_not_refused o (Some cb) (Some bb) None c xs a ok (ProbTooDeep weight) h =
+    ok (ProbTooDeep weight) (accepted_held o.max_time cb bb c xs a.0 a.1 (CircuitRefuses o (ProbTooDeep weight)) h)
+accepted_not_refused o circuit bits (Some size) c xs a ok r h =
+    ok r (subst (λ ys. CircuitRefuses o r c ys) (sym a.indices) (subst (λ d. CircuitRefuses o r d (first_indices d.qubits)) (sym a.circuit) h))
 
 -- ---- what was printed is no refusal
 pub printed_refused : (o : Options) (circuit bits out : Seen) (after : Face) → Prints o circuit bits out after (λ text. text)

@@ -1,8 +1,8 @@
 -- How a call ended: what follows of each status from its text or its stop.
 use Rattle.std.proofs.Common.{◌≡◌, ◌≢◌, ℕ, ◌≤◌, ◌⊎◌, inl, inr, List, false, Some, None, is_some, IfSome, IsSome, IsSomeAnd, refl, ap, subst, arith}
 use Rattle.std.specs.declared.option.Option.{Option}
-use Rattle.std.proofs.lemmas.Bool.{cases_eq}
-use Rattle.qh_gates.specs.Circuits.{Circuit}
+use Rattle.std.proofs.lemmas.Bool.{cases_eq, false≢true}
+use Rattle.qh_gates.specs.Circuits.{Circuit, total_weight}
 use Rattle.qh_plan.specs.Jobs.{Job}
 use Rattle.qh_plan.specs.declared.verdict.Verdict.{Verdict}
 use Rattle.qh_disk.specs.Disk.{Face}
@@ -13,18 +13,18 @@ use Rattle.qh_words.specs.declared.size.GenSize.{GenSize}
 use Rattle.qh_tell.specs.Seen.{Seen, Rises}
 use Rattle.qh_request.specs.Inputs.{HasInput}
 use Rattle.qh_request.specs.Jobs.{Asks, Takes, keeping}
-use Rattle.qh_request.specs.Refusals.{PlanRefusesBy, Refuses, FilesReading, ReadingBy, Reading, SourceRises, RefusesAll, JournalRefuses}
+use Rattle.qh_request.specs.Refusals.{Refuses, FilesReading, ReadingBy, Reading, SourceRises, RefusesAll, JournalRefuses}
 use Rattle.qh_request.specs.Request.{Prints, PrintsAsked, RunIsWhole, EndsWholeBy, FaultCame, FaultFirst, Answers, IsRun}
 use Rattle.qh_request.specs.Parts.{Ended}
 use Rattle.qh_tell.specs.Stops.{status_of}
 use Rattle.qh_request.specs.Outcomes.{MayStopBy, MayStop, Stops}
 use Rattle.qh_tell.specs.declared.stop.Refusal.{Refusal}
-use Rattle.qh_tell.specs.declared.stop.Refusal.TheVariants.{CircuitTooLong, CircuitLine, BitsTooLong, BitsLine, Plan}
+use Rattle.qh_tell.specs.declared.stop.Refusal.TheVariants.{CircuitTooLong, CircuitLine, BitsTooLong, BitsLine, Plan, ProbTooDeep}
 use Rattle.qh_tell.specs.declared.stop.JournalRefusal.{JournalRefusal}
 use Rattle.qh_tell.specs.declared.stop.Input.TheVariants.{OfCircuit, OfBits}
 use Rattle.qh_tell.specs.declared.stop.Stop.{Stop}
 use Rattle.qh_tell.specs.declared.stop.Stop.TheVariants.{Usage, Refused, OverflowGate, OverflowPath, ReadFault, DiskFault, WriteFault, Memory, Journal}
-use Rattle.qh_request.proofs.Causes.{refused_answer, words_answer, printed_refused, printed_words, accepted_not_refused, planned_not_refused, narrow_not_refused, reads, none_some}
+use Rattle.qh_request.proofs.Causes.{refused_answer, words_answer, printed_refused, printed_words, accepted_not_refused, planned_part_not_refused, amplitudes_not_refused, shallow_not_refused, reads, none_some}
 use Rattle.qh_request.proofs.Inputs.{same_job}
 use Rattle.qh_request.proofs.Journals.{accepts_not_refuses}
 
@@ -103,7 +103,7 @@ module _ (o : Options) (circuit bits out : Seen) (disk after old old_after : Fac
       → (r : Refusal) → Refuses (λ known P. IfSome known P) o r circuit.before bits.before → ⊥
   asks_not_refused asked j a r h =
       accepted_not_refused o circuit.before bits.before o.generated a.value a.indices a.input
-      (λ fault p. planned_not_refused o a.part a.value a.indices j a.planned fault (subst (λ q. PlanRefusesBy q o a.value a.indices fault) a.cut p)) r h
+      (planned_part_not_refused o a.part a.value a.indices j a.cut a.planned) r h
 
   -- ---- a job whose journals are refused: a whole run has none
   pub journal_refused_by : (asked : Option Options) (j : Job) → How o circuit bits out disk after old old_after status → Asks asked circuit.before bits.before o j
@@ -125,25 +125,18 @@ module _ (o : Options) (circuit bits out : Seen) (disk after old old_after : Fac
       by (Journal r) e m = inl e
 
   -- ---- what is accepted
-  -- an accepted input of a circuit that is not cut is no refusal
-  uncut_not_refused : (c : Circuit) (xs : List ℕ) → HasInput o.generated o.max_time circuit.before bits.before c xs → o.part ≡ None → c.qubits ≤ 16
-      → (r : Refusal) → Refuses (λ known P. IfSome known P) o r circuit.before bits.before → ⊥
-  uncut_not_refused c xs a e low r h =
-      accepted_not_refused o circuit.before bits.before o.generated c xs a
-      (λ fault p. narrow_not_refused o c xs low fault (subst (λ q. PlanRefusesBy q o c xs fault) e p)) r h
-
   no_cut : (j : Job) → o.part ≡ None → Takes o circuit bits j → ⊥
   no_cut j e t = none_some o.part t.part e t.cut
 
   pub uncut_answer : How o circuit bits out disk after old old_after status → ¬ FaultCame (Some o) circuit bits out disk after old old_after
-      → (c : Circuit) (xs : List ℕ) → HasInput o.generated o.max_time circuit.before bits.before c xs → o.part ≡ None → c.qubits ≤ 16
+      → (c : Circuit) (xs : List ℕ) → HasInput o.generated o.max_time circuit.before bits.before c xs → o.part ≡ None → o.prob ≡ false → c.qubits ≤ 16
       → (status ≡ 0) ⊎ ((status ≡ 3) ⊎ (status ≡ 7))
-  uncut_answer (inl p) none c xs a uncut low = inl p.0
-  uncut_answer (inr s) none c xs a uncut low = by s.0 s.1 s.2
+  uncut_answer (inl p) none c xs a uncut off low = inl p.0
+  uncut_answer (inr s) none c xs a uncut off low = by s.0 s.1 s.2
     where
       by : (stop : Stop) → status ≡ status_of stop → MayStopBy o circuit bits out disk after old old_after stop → (status ≡ 0) ⊎ ((status ≡ 3) ⊎ (status ≡ 7))
       by Usage e m = absurd m
-      by (Refused r) e m = absurd (uncut_not_refused c xs a uncut low r m.1)
+      by (Refused r) e m = absurd (accepted_not_refused o circuit.before bits.before o.generated c xs a (amplitudes_not_refused o c xs uncut off low) r m.1)
       by (OverflowGate gate) e m = inr (inl e)
       by (OverflowPath path) e m = inr (inl e)
       by (ReadFault OfCircuit) e m = absurd (none (inl (reads o circuit bits m.0 (inl m.1))))
@@ -152,6 +145,40 @@ module _ (o : Options) (circuit bits out : Seen) (disk after old old_after : Fac
       by (WriteFault n) e m = absurd (none (inr (inl m.0)))
       by Memory e m = inr (inr e)
       by (Journal r) e m = absurd (no_cut m.0 uncut m.1)
+
+  -- probabilities are over nowhere
+  pub prob_answer : How o circuit bits out disk after old old_after status → ¬ FaultCame (Some o) circuit bits out disk after old old_after
+      → (c : Circuit) (xs : List ℕ) → HasInput o.generated o.max_time circuit.before bits.before c xs → o.part ≡ None → o.prob ≡ true → c.qubits ≤ 16
+      → total_weight c.gates ≤ 120 → (status ≡ 0) ⊎ (status ≡ 7)
+  prob_answer (inl p) none c xs a uncut on low shallow = inl p.0
+  prob_answer (inr s) none c xs a uncut on low shallow = by s.0 s.1 s.2
+    where
+      by : (stop : Stop) → status ≡ status_of stop → MayStopBy o circuit bits out disk after old old_after stop → (status ≡ 0) ⊎ (status ≡ 7)
+      by Usage e m = absurd m
+      by (Refused r) e m = absurd (accepted_not_refused o circuit.before bits.before o.generated c xs a (shallow_not_refused o c xs uncut low shallow) r m.1)
+      by (OverflowGate gate) e m = absurd (false≢true (sym m.amplitudes ∙ on))
+      by (OverflowPath path) e m = absurd (no_cut m.job uncut m.taken)
+      by (ReadFault OfCircuit) e m = absurd (none (inl (reads o circuit bits m.0 (inl m.1))))
+      by (ReadFault OfBits) e m = absurd (none (inl (reads o circuit bits m.0 (inr m.1))))
+      by DiskFault e m = absurd (none (inr (inr m.1)))
+      by (WriteFault n) e m = absurd (none (inr (inl m.0)))
+      by Memory e m = inr e
+      by (Journal r) e m = absurd (no_cut m.0 uncut m.1)
+
+  pub never_over : How o circuit bits out disk after old old_after status → o.part ≡ None → o.prob ≡ true → status ≢ 3
+  never_over (inl p) uncut on three = omega (arith, p.0, three)
+  never_over (inr s) uncut on three = by s.0 s.1 s.2
+    where
+      by : (stop : Stop) → status ≡ status_of stop → MayStopBy o circuit bits out disk after old old_after stop → ⊥
+      by Usage e m = m
+      by (Refused r) e m = omega (arith, e, three)
+      by (OverflowGate gate) e m = false≢true (sym m.amplitudes ∙ on)
+      by (OverflowPath path) e m = no_cut m.job uncut m.taken
+      by (ReadFault input) e m = omega (arith, e, three)
+      by DiskFault e m = omega (arith, e, three)
+      by (WriteFault n) e m = omega (arith, e, three)
+      by Memory e m = omega (arith, e, three)
+      by (Journal r) e m = omega (arith, e, three)
 
   pub cut_answer : (asked : Option Options) (j : Job) → How o circuit bits out disk after old old_after status → ¬ FaultCame (Some o) circuit bits out disk after old old_after
       → Asks asked circuit.before bits.before o j → Accepts (keeping o) j disk old → (status ≡ 0) ⊎ ((status ≡ 3) ⊎ (status ≡ 7))
@@ -214,6 +241,7 @@ files_rose circuit bits (CircuitLine line why) none h = none (inl h)
 files_rose circuit bits BitsTooLong none h = none h
 files_rose circuit bits (BitsLine line why) none h = none h
 files_rose circuit bits (Plan fault) none h = none h
+files_rose circuit bits (ProbTooDeep weight) none h = none h
 
 none_rose : (g : Option GenSize) (circuit bits : Seen) (r : Refusal) → (SourceRises g circuit bits → ⊥) → ReadingBy g circuit bits r → ⊥
 none_rose None circuit bits r none h = files_rose circuit bits r none h
@@ -248,6 +276,9 @@ module _ (asked : Option Options) (circuit bits out : Seen) (disk after old old_
       by None e = e
       by (Some o) e = absurd (never_usage o circuit bits out disk after old old_after status (how_here o e) one)
 
+  pub never_over_asked : ((o : Options) → asked ≡ Some o → o.prob ≡ true → o.part ≡ None) → (o : Options) → asked ≡ Some o → o.prob ≡ true → status ≢ 3
+  never_over_asked alone o e on = never_over o circuit bits out disk after old old_after status (how_here o e) (alone o e on) on
+
   pub refused_asked : (o : Options) (r : Refusal) → asked ≡ Some o → Refuses (λ known P. IsSomeAnd known P) o r circuit.before bits.before
       → (status ≡ 2) ⊎ ((status ≡ 7) ⊎ ((status ≡ 4) × Reading o circuit bits r))
   refused_asked o r e h = refused_by o circuit bits out disk after old old_after status (how_here o e) r h
@@ -272,6 +303,7 @@ module _ (asked : Option Options) (circuit bits out : Seen) (disk after old old_
     refused_by_words = λ o e all. two_or_seven status (SourceRises o.generated circuit bits) (λ rose. none_of o e none (inl rose)) (words_refused o e all);
     journal_refused = λ o j a r h. eight_or_seven status (FaultFirst o circuit bits disk after old old_after status)
         (no_first_fault o circuit bits out disk after old old_after status (none_of o a.request_is none)) (journal_refused o j r a h);
-    uncut = λ o e c xs a uncut low. uncut_answer o circuit bits out disk after old old_after status (how_here o e) (none_of o e none) c xs a uncut low;
+    uncut = λ o e c xs a uncut off low. uncut_answer o circuit bits out disk after old old_after status (how_here o e) (none_of o e none) c xs a uncut off low;
+    prob = λ o e c xs a uncut on low shallow. prob_answer o circuit bits out disk after old old_after status (how_here o e) (none_of o e none) c xs a uncut on low shallow;
     cut = λ o j a accepted. cut_answer o circuit bits out disk after old old_after status asked j (how_here o a.request_is) (none_of o a.request_is none) a accepted;
   }

@@ -128,7 +128,7 @@ module _ (o : Options) (circuit bits : Seen) (disk after old : Face) (Granted : 
   none_ends : (out : Seen) (status : ℕ) → (status ≡ 0 → ⊥) → (status ≡ 3 → ⊥) → (status ≡ 6 → ⊥) → (status ≡ 8 → ⊥) → Ended o circuit bits out disk after old Granted status
   none_ends out status a b c d = record { whole = λ done some. absurd (not_whole status a b c done); unwritten = λ eight. absurd (d eight) }
 
-  uncut_ends : (out : Seen) → o.part ≡ None → (stop : Stop) → UncutMayStop c stop → Ended o circuit bits out disk after old Granted (status_of stop)
+  uncut_ends : (out : Seen) → o.part ≡ None → (stop : Stop) → UncutMayStop o.prob c stop → Ended o circuit bits out disk after old Granted (status_of stop)
   uncut_ends out e Usage h = absurd h
   uncut_ends out e (Refused r) h = none_ends out 2 (λ e. omega (arith, e)) (λ e. omega (arith, e)) (λ e. omega (arith, e)) (λ e. omega (arith, e))
   uncut_ends out e (OverflowGate gate) h = record { whole = λ done some. absurd (no_part o.part e some); unwritten = λ eight. absurd (omega (arith, eight)) }

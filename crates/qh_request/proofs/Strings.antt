@@ -27,23 +27,31 @@ use Rattle.qh_meaning.specs.Asked.{asked}
 use Rattle.qh_text.specs.Bitstrings.{index_of, bits_text, is_bitstring}
 use Rattle.qh_text.specs.Words.{word_of}
 use Rattle.qh_text.proofs.BitLemmas.{index_of_string, string_of_index}
+use Rattle.qh_prob.specs.declared.prob.Prob.{Prob}
+use Rattle.qh_prob.specs.Probability.{probability}
+use Rattle.qh_prob.specs.Forms.{IsLeast, prob_line}
+use Rattle.qh_prob.specs.Texts.{AreProbLines}
+use Rattle.qh_prob.proofs.TextLemmas.{one_least}
 use Rattle.qh_print.specs.Output.{IsText, value_line}
 use Rattle.qh_print.proofs.ValueLemmas.{one_canon}
 use Rattle.qh_words.specs.declared.options.Options.{Options}
 use Rattle.qh_words.specs.declared.size.GenSize.{GenSize}
 use Rattle.qh_tell.specs.Seen.{Seen}
 use Rattle.qh_request.specs.Inputs.{IsInput, asked_strings}
-use Rattle.qh_request.specs.Lines.{AreLines, value_words}
+use Rattle.qh_request.specs.Lines.{AreLines, value_words, AreProbabilities, prob_words}
 use Rattle.qh_disk.specs.Disk.{Face}
 use Rattle.qh_request.specs.Jobs.{IsPlannedJob, job_strings}
-use Rattle.qh_request.specs.Answer.{IsAnswerBy, IsCutAnswer, IsValuesText, IsJobText}
-use Rattle.qh_request.specs.Indexed.{IsIndexedBy, IsCutText, IsSumsText}
+use Rattle.qh_request.specs.Answer.{IsWholeAnswer, IsAnswerBy, IsCutAnswer, IsValuesText, IsJobText}
+use Rattle.qh_request.specs.Indexed.{IsWholeText, IsIndexedBy, IsCutText, IsSumsText}
 use Rattle.qh_request.proofs.Asked.{sums_are_asked, none_over, not_kept}
 use Rattle.qh_request.proofs.FirstIndices.{first_bits}
 
 -- ---- lines
 six : (p q r s t u v : List ℕ) → p ++ q ++ r ++ s ++ t ++ u ++ v ≡ p ++ (q ++ r ++ s ++ t ++ u ++ v)
 six p q r s t u v = simp append_assoc refl
+
+four : (p q r s t : List ℕ) → p ++ q ++ r ++ s ++ t ≡ p ++ (q ++ r ++ s ++ t)
+four p q r s t = simp append_assoc refl
 
 line_words : (n x : ℕ) (v : Canon) → value_line n x v ≡ bits_text n x ++ value_words v
 unfolding value_line value_words
@@ -55,6 +63,29 @@ lines_named n k [] zs text h = h
 lines_named n k (x ∷ xs) [] text h = absurd h
 lines_named n k (x ∷ xs) (z ∷ zs) text h =
     (h.0, h.1, h.2, lines_named n k xs zs h.1 h.3, h.4 ∙ ap (λ t. t ++ h.1) (line_words n x h.0))
+
+prob_words_are : (n x : ℕ) (y : Prob) (k : ℕ) → prob_line n x y k ≡ bits_text n x ++ prob_words y k
+unfolding prob_line prob_words
+prob_words_are n x y k = four (bits_text n x) (word_of (signed_decimal y.p)) (word_of (signed_decimal y.q)) (word_of (decimal k)) (10 ∷ [])
+
+prob_named : (c : Circuit) (xs text : List ℕ) → All (λ x. x < 2 ^ c.qubits) xs → AreProbLines c xs text → AreProbabilities c (map (bits_text c.qubits) xs) text
+prob_named c [] text below h = h
+prob_named c (x ∷ xs) text below h =
+    let named : index_of (bits_text c.qubits x) ≡ x = index_of_string c.qubits x (All-head (λ x. x < 2 ^ c.qubits) x xs below) in (
+      h.0,
+      h.1,
+      h.2,
+      subst (λ i. IsLeast (probability (uncut c.gates i)) (total_weight c.gates) h.0 h.1) (sym named) h.3,
+      prob_named c xs h.2 (All-tail (λ x. x < 2 ^ c.qubits) x xs below) h.4,
+      h.5 ∙ ap (λ t. t ++ h.2) (prob_words_are c.qubits x h.0 h.1),
+    )
+
+pub one_probabilities : (c : Circuit) (ss : List (List ℕ)) (s t : List ℕ) → AreProbabilities c ss s → AreProbabilities c ss t → s ≡ t
+one_probabilities c [] s t d e = d ∙ sym e
+one_probabilities c (x ∷ ss) s t d e =
+    let least = one_least _ d.0 e.0 _ d.1 e.1 d.3 e.3 in
+    let rest = one_probabilities c ss d.2 e.2 d.4 e.4 in
+    d.5 ∙ ap₂ (λ y k. x ++ prob_words y k ++ d.2) least.0 least.1 ∙ ap (λ r. x ++ prob_words e.0 e.1 ++ r) rest ∙ sym e.5
 
 pub one_lines : (k : ℕ) (ss : List (List ℕ)) (values : List Omega) (s t : List ℕ) → AreLines k ss values s → AreLines k ss values t → s ≡ t
 one_lines k [] values s t d e = d ∙ sym e
@@ -180,18 +211,24 @@ cut_named o disk after old Granted part c xs text below h =
           (asked_text o.generated h.job h.sums text h.valid (sym (h.run.unkept (not_kept o none))) h.text_is);
     }
 
+whole_named : (prob : Bool) (g : Option GenSize) (c : Circuit) (xs text : List ℕ) → All (λ x. x < 2 ^ c.qubits) xs → IsWholeText prob g c xs text
+    → IsWholeAnswer prob g c (map (bits_text c.qubits) xs) text
+whole_named true g c xs text below h =
+    record { narrow = h.narrow; shallow = h.shallow; lines = h.lines; are_lines = prob_named c xs h.lines below h.are_lines; text_is = h.text_is }
+whole_named false g c xs text below h = record {
+  narrow = h.narrow;
+  never = h.never;
+  lines = h.lines;
+  are_lines = subst (λ zs. AreLines (total_weight c.gates) (map (bits_text c.qubits) xs) zs h.lines) (values_named c.qubits (uncut c.gates) xs below)
+      (lines_named c.qubits (total_weight c.gates) xs (map (uncut c.gates) xs) h.lines h.are_lines);
+  text_is = h.text_is;
+}
+
 pub named_by : (part : Option (List ℕ)) (o : Options) (disk after old : Face) (Granted : ℕ → Type 0) (c : Circuit) (xs : List ℕ) (ss : List (List ℕ)) (text : List ℕ)
     → ss ≡ map (bits_text c.qubits) xs → All (λ x. x < 2 ^ c.qubits) xs
     → IsIndexedBy part o disk after old Granted c xs text → IsAnswerBy part o after c ss text
 named_by part o disk after old Granted c xs ss text e below h = subst (λ ss. IsAnswerBy part o after c ss text) (sym e) (spelled part h)
   where
     spelled : (part : Option (List ℕ)) → IsIndexedBy part o disk after old Granted c xs text → IsAnswerBy part o after c (map (bits_text c.qubits) xs) text
-    spelled None h = record {
-      narrow = h.narrow;
-      never = h.never;
-      lines = h.lines;
-      are_lines = subst (λ zs. AreLines (total_weight c.gates) (map (bits_text c.qubits) xs) zs h.lines) (values_named c.qubits (uncut c.gates) xs below)
-          (lines_named c.qubits (total_weight c.gates) xs (map (uncut c.gates) xs) h.lines h.are_lines);
-      text_is = h.text_is;
-    }
+    spelled None h = whole_named o.prob o.generated c xs text below h
     spelled (Some part) h = cut_named o disk after old Granted part c xs text below h

@@ -16,9 +16,9 @@ use Rattle.qh_record.specs.Record.{Keeping, values, slots_after, IsEnd}
 use Rattle.qh_words.specs.declared.options.Options.{Options}
 use Rattle.qh_words.specs.declared.size.GenSize.{GenSize}
 use Rattle.qh_request.specs.Jobs.{keeping}
-use Rattle.qh_request.specs.Answer.{IsAnswerBy, IsCutAnswer, IsValuesText, head_text}
+use Rattle.qh_request.specs.Answer.{IsWholeAnswer, IsAnswerBy, IsCutAnswer, IsValuesText, head_text}
 use Rattle.qh_request.proofs.Causes.{one_job}
-use Rattle.qh_request.proofs.Strings.{one_lines}
+use Rattle.qh_request.proofs.Strings.{one_lines, one_probabilities}
 
 one_values : (g : Option GenSize) (j : Job) (ss : List (List ℕ)) (zs : List Omega) (s t : List ℕ) → IsValuesText g j ss zs s → IsValuesText g j ss zs t → s ≡ t
 one_values g j ss zs s t d e = d.text_is ∙ ap (λ l. head_text g j.circuit _ _ ++ l) (one_lines _ ss zs d.lines e.lines d.are_lines e.are_lines) ∙ sym e.text_is
@@ -57,8 +57,11 @@ one_cut o after part c ss s t told d e =
     one_values o.generated d.job ss d.text_is.sums s t d.text_is.values
     (subst (λ zs. IsValuesText o.generated d.job ss zs t) (sym sums) (subst (λ (j : Job). IsValuesText o.generated j ss e.text_is.sums t) (sym job) e.text_is.values))
 
+one_whole : (prob : Bool) (g : Option GenSize) (c : Circuit) (ss : List (List ℕ)) (s t : List ℕ) → IsWholeAnswer prob g c ss s → IsWholeAnswer prob g c ss t → s ≡ t
+one_whole true g c ss s t d e = d.text_is ∙ ap (λ l. head_text g c 0 0 ++ l) (one_probabilities c ss d.lines e.lines d.are_lines e.are_lines) ∙ sym e.text_is
+one_whole false g c ss s t d e = d.text_is ∙ ap (λ l. head_text g c 0 0 ++ l) (one_lines _ ss _ d.lines e.lines d.are_lines e.are_lines) ∙ sym e.text_is
+
 pub one_text : (part : Option (List ℕ)) (o : Options) (after : Face) (c : Circuit) (ss : List (List ℕ)) (s t : List ℕ) → (IsSome o.journal → IsSome after.content)
     → IsAnswerBy part o after c ss s → IsAnswerBy part o after c ss t → s ≡ t
-one_text None o after c ss s t told d e =
-    d.text_is ∙ ap (λ l. head_text o.generated c 0 0 ++ l) (one_lines _ ss _ d.lines e.lines d.are_lines e.are_lines) ∙ sym e.text_is
+one_text None o after c ss s t told d e = one_whole o.prob o.generated c ss s t d e
 one_text (Some part) o after c ss s t told d e = one_cut o after part c ss s t told d e

@@ -1,5 +1,5 @@
 -- The text that is asked for.
-use Rattle.std.specs.Prelude.{◌≡◌, ℕ, ◌≤◌, List, [], ◌∷◌, ◌++◌, length, map, codes, decimal, Option, Some, None}
+use Rattle.std.specs.Prelude.{◌≡◌, ℕ, ◌≤◌, List, [], ◌∷◌, ◌++◌, length, map, codes, decimal, Bool, true, false, Option, Some, None}
 use Rattle.qh_gates.specs.Circuits.{Circuit, total_weight}
 use Rattle.qh_gates.specs.Evolution.{uncut, NeverOver}
 use Rattle.qh_ring.specs.declared.number.Omega.{Omega}
@@ -15,8 +15,8 @@ use Rattle.qh_slots.specs.Stands.{Slots, slot_at}
 use Rattle.qh_record.specs.Record.{IsEnd, IsFull}
 use Rattle.qh_words.specs.declared.options.Options.{Options}
 use Rattle.qh_words.specs.declared.size.GenSize.{GenSize}
-use Rattle.qh_limits.specs.Limits.{max_uncut_qubits}
-use Rattle.qh_request.specs.Lines.{AreLines}
+use Rattle.qh_limits.specs.Limits.{max_uncut_qubits, max_weight}
+use Rattle.qh_request.specs.Lines.{AreLines, AreProbabilities}
 use Rattle.qh_request.specs.Jobs.{IsPlannedJob, keeping}
 
 -- gen n g K c r: the numbers of qubits, gates, scaled gates, crossing gates and ranges
@@ -37,6 +37,19 @@ pub record IsUncutAnswer (generated : Option GenSize) (c : Circuit) (strings : L
   pub lines : List ℕ
   pub are_lines : AreLines (total_weight c.gates) strings (map (λ s. uncut c.gates (index_of s)) strings) lines
   pub text_is : text ≡ head_text generated c 0 0 ++ lines
+
+-- the probabilities of an uncut circuit of at most 16 qubits and a weight of at most 120: one for each string
+pub record IsProbAnswer (generated : Option GenSize) (c : Circuit) (strings : List (List ℕ)) (text : List ℕ) : Type 0 where
+  pub narrow : c.qubits ≤ max_uncut_qubits
+  pub shallow : total_weight c.gates ≤ max_weight
+  pub lines : List ℕ
+  pub are_lines : AreProbabilities c strings lines
+  pub text_is : text ≡ head_text generated c 0 0 ++ lines
+
+-- probabilities where they are asked for, and else amplitudes
+abbrev pub IsWholeAnswer : Bool → Option GenSize → Circuit → List (List ℕ) → List ℕ → Type 0
+IsWholeAnswer true generated c strings text = IsProbAnswer generated c strings text
+IsWholeAnswer false generated c strings text = IsUncutAnswer generated c strings text
 
 -- the lines of these values of a job at these strings, behind the first line where the circuit is generated
 pub record IsValuesText (generated : Option GenSize) (j : Job) (strings : List (List ℕ)) (values : List Omega) (text : List ℕ) : Type 0 where
@@ -67,7 +80,7 @@ pub record IsCutAnswer (o : Options) (after : Face) (part : List ℕ) (c : Circu
 
 -- with a part 1 the circuit is cut, and else it is not
 abbrev pub IsAnswerBy : Option (List ℕ) → Options → Face → Circuit → List (List ℕ) → List ℕ → Type 0
-IsAnswerBy None o after c strings text = IsUncutAnswer o.generated c strings text
+IsAnswerBy None o after c strings text = IsWholeAnswer o.prob o.generated c strings text
 IsAnswerBy (Some part) o after c strings text = IsCutAnswer o after part c strings text
 
 -- the text that the options ask for of a circuit at these strings; `after` is the disk of the journal when the call ends

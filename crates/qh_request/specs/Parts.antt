@@ -1,7 +1,7 @@
 -- What the parts of the call stop with.
-use Rattle.std.specs.Prelude.{◌≡◌, ℕ, ◌<◌, ◌≤◌, true, false, List, length, IfSome, IsSome, Option, Some, None}
-use Rattle.qh_limits.specs.Limits.{max_uncut_qubits, max_circuit_bytes, max_bits_bytes}
-use Rattle.qh_gates.specs.Circuits.{Circuit}
+use Rattle.std.specs.Prelude.{◌≡◌, ℕ, ◌<◌, ◌≤◌, Bool, true, false, List, length, IfSome, IsSome, Option, Some, None}
+use Rattle.qh_limits.specs.Limits.{max_uncut_qubits, max_weight, max_circuit_bytes, max_bits_bytes}
+use Rattle.qh_gates.specs.Circuits.{Circuit, total_weight}
 use Rattle.qh_gates.specs.Evolution.{IsUncutOver}
 use Rattle.qh_plan.specs.Jobs.{Job}
 use Rattle.qh_plan.specs.declared.fault.PlanFault.{PlanFault}
@@ -19,7 +19,7 @@ use Rattle.qh_request.specs.Inputs.{IsCircuitFile, IsFaultyCircuit, AreFaultyBit
 use Rattle.qh_request.specs.Jobs.{IsPlannedJob, Takes, keeping}
 use Rattle.qh_request.specs.Refusals.{PlanRefusesBy, JournalRefuses, DisksRise}
 use Rattle.qh_request.specs.Request.{IsRun, RunIsWhole, EndsWholeBy}
-use Rattle.qh_tell.specs.declared.stop.Refusal.TheVariants.{CircuitTooLong, CircuitLine, BitsTooLong, BitsLine, Plan}
+use Rattle.qh_tell.specs.declared.stop.Refusal.TheVariants.{CircuitTooLong, CircuitLine, BitsTooLong, BitsLine, Plan, ProbTooDeep}
 use Rattle.qh_tell.specs.declared.stop.Input.TheVariants.{OfCircuit, OfBits}
 use Rattle.qh_tell.specs.declared.stop.Stop.{Stop}
 use Rattle.qh_tell.specs.declared.stop.Stop.TheVariants.{Refused, OverflowGate, OverflowPath, ReadFault, DiskFault, Memory, Journal}
@@ -56,12 +56,13 @@ abbrev pub InputMayStop : Option GenSize → ℕ → Seen → Seen → Stop → 
 InputMayStop None T circuit bits stop = FilesMayStop T circuit bits stop
 InputMayStop (Some size) T circuit bits stop = stop ≡ Memory
 
--- one that evolves a circuit whole
-abbrev pub UncutMayStop : Circuit → Stop → Type 0
-UncutMayStop c (Refused (Plan fault)) = (fault ≡ Wide c.qubits) × (max_uncut_qubits < c.qubits)
-UncutMayStop c (OverflowGate gate) = (c.qubits ≤ max_uncut_qubits) × IsUncutOver c gate
-UncutMayStop c Memory = Unit {0}
-UncutMayStop c _ = ⊥
+-- one that evolves a circuit whole, for its probabilities or its amplitudes
+abbrev pub UncutMayStop : Bool → Circuit → Stop → Type 0
+UncutMayStop prob c (Refused (Plan fault)) = (fault ≡ Wide c.qubits) × (max_uncut_qubits < c.qubits)
+UncutMayStop prob c (Refused (ProbTooDeep weight)) = (prob ≡ true) × (c.qubits ≤ max_uncut_qubits) × (weight ≡ total_weight c.gates) × (max_weight < weight)
+UncutMayStop prob c (OverflowGate gate) = (prob ≡ false) × (c.qubits ≤ max_uncut_qubits) × IsUncutOver c gate
+UncutMayStop prob c Memory = Unit {0}
+UncutMayStop prob c _ = ⊥
 
 -- one that plans a job, where P says which refusals hold
 abbrev pub PlanMayStop : (PlanFault → Type 0) → Stop → Type 0
@@ -91,7 +92,7 @@ CutMayStop o part c xs disk after old old_after Granted stop = PlannedMayStop o 
 
 -- one that answers of a circuit and basis indices
 abbrev pub AnswerMayStop : Option (List ℕ) → Options → Circuit → List ℕ → Face → Face → Face → Face → (ℕ → Type 0) → Stop → Type 0
-AnswerMayStop None o c xs disk after old old_after Granted stop = UncutMayStop c stop
+AnswerMayStop None o c xs disk after old old_after Granted stop = UncutMayStop o.prob c stop
 AnswerMayStop (Some part) o c xs disk after old old_after Granted stop = CutMayStop o part c xs disk after old old_after Granted stop
 
 -- ---- what the parts do to the disks, where they call on one: what a run of the planned job does

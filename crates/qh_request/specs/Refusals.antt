@@ -1,7 +1,7 @@
 -- When a request is refused.
-use Rattle.std.specs.Prelude.{◌≡◌, ℕ, ◌+◌, ◌<◌, ◌⊎◌, List, length, true, Option, Some, None, IsSome}
-use Rattle.qh_limits.specs.Limits.{max_uncut_qubits, max_circuit_bytes, max_bits_bytes}
-use Rattle.qh_gates.specs.Circuits.{Circuit}
+use Rattle.std.specs.Prelude.{◌≡◌, ℕ, ◌+◌, ◌<◌, ◌≤◌, ◌⊎◌, List, length, true, Option, Some, None, IsSome}
+use Rattle.qh_limits.specs.Limits.{max_uncut_qubits, max_weight, max_circuit_bytes, max_bits_bytes}
+use Rattle.qh_gates.specs.Circuits.{Circuit, total_weight}
 use Rattle.qh_plan.specs.Items.{items_of, AreNumbers, IsItemFault}
 use Rattle.qh_plan.specs.Plans.{first_fault}
 use Rattle.qh_plan.specs.Jobs.{Job}
@@ -19,7 +19,7 @@ use Rattle.qh_request.specs.Inputs.{IsCircuitFile, IsBitsFile, IsFaultyCircuit, 
 use Rattle.qh_tell.specs.declared.stop.JournalRefusal.{JournalRefusal}
 use Rattle.qh_tell.specs.declared.stop.JournalRefusal.TheVariants.{OfJournal, OfOld}
 use Rattle.qh_tell.specs.declared.stop.Refusal.{Refusal}
-use Rattle.qh_tell.specs.declared.stop.Refusal.TheVariants.{CircuitTooLong, CircuitLine, BitsTooLong, BitsLine, Plan}
+use Rattle.qh_tell.specs.declared.stop.Refusal.TheVariants.{CircuitTooLong, CircuitLine, BitsTooLong, BitsLine, Plan, ProbTooDeep}
 
 -- Without a cut the circuit is too wide; with one the text of part 1 is faulty, or else the plan has this first fault.
 abbrev pub PlanRefusesBy : Option (List ℕ) → Options → Circuit → List ℕ → PlanFault → Type 0
@@ -30,20 +30,37 @@ PlanRefusesBy (Some part) o c xs fault =
 abbrev pub PlanRefuses : Options → Circuit → List ℕ → PlanFault → Type 0
 PlanRefuses o c xs fault = PlanRefusesBy o.part o c xs fault
 
--- A refusal of two files, by what the sources hold. Told says what is claimed of a source's content: IfSome claims nothing
--- where it is not told, and IsSomeAnd claims that it is told.
+-- probabilities are asked of an uncut circuit of at most 16 qubits that has this weight, above 120
+pub record IsTooDeep (o : Options) (c : Circuit) (weight : ℕ) : Type 0 where
+  pub asked : o.prob ≡ true
+  pub uncut : o.part ≡ None
+  pub narrow : c.qubits ≤ max_uncut_qubits
+  pub weight_is : weight ≡ total_weight c.gates
+  pub deep : max_weight < weight
+
+-- a refusal of a circuit and basis indices that were read, or generated
+abbrev pub CircuitRefuses : Options → Refusal → Circuit → List ℕ → Type 0
+CircuitRefuses o (Plan fault) c xs = PlanRefuses o c xs fault
+CircuitRefuses o (ProbTooDeep weight) c xs = IsTooDeep o c weight
+CircuitRefuses o _ c xs = ⊥
+
+-- Both files are accepted, and P holds of what they hold. Told says what is claimed of a source's content: IfSome claims nothing where it is not told, and
+-- IsSomeAnd claims that it is told.
+abbrev pub FilesHold : (Option (List ℕ) → (List ℕ → Type 0) → Type 0) → ℕ → (Circuit → List ℕ → Type 0) → Option (List ℕ) → Option (List ℕ) → Type 0
+FilesHold Told T P circuit bits = Told circuit (λ text. (c : Circuit) × IsCircuitFile T c text × Told bits (λ bytes. (xs : List ℕ) × IsBitsFile c xs bytes × P c xs))
+
+-- a refusal of two files, by what the sources hold
 abbrev pub FilesRefuse : (Option (List ℕ) → (List ℕ → Type 0) → Type 0) → Options → Refusal → Option (List ℕ) → Option (List ℕ) → Type 0
 FilesRefuse Told o CircuitTooLong circuit bits = Told circuit (λ bytes. max_circuit_bytes < length bytes)
 FilesRefuse Told o (CircuitLine line why) circuit bits = Told circuit (IsFaultyCircuit o.max_time line why)
 FilesRefuse Told o BitsTooLong circuit bits = Told circuit (λ text. (c : Circuit) × IsCircuitFile o.max_time c text × Told bits (λ bytes. max_bits_bytes < length bytes))
 FilesRefuse Told o (BitsLine line why) circuit bits = Told circuit (λ text. (c : Circuit) × IsCircuitFile o.max_time c text × Told bits (AreFaultyBits c line why))
-FilesRefuse Told o (Plan fault) circuit bits =
-    Told circuit (λ text. (c : Circuit) × IsCircuitFile o.max_time c text × Told bits (λ bytes. (xs : List ℕ) × IsBitsFile c xs bytes × PlanRefuses o c xs fault))
+FilesRefuse Told o (Plan fault) circuit bits = FilesHold Told o.max_time (CircuitRefuses o (Plan fault)) circuit bits
+FilesRefuse Told o (ProbTooDeep weight) circuit bits = FilesHold Told o.max_time (CircuitRefuses o (ProbTooDeep weight)) circuit bits
 
 -- a refusal of a generated circuit
 abbrev pub SizeRefuses : Options → GenSize → Refusal → Type 0
-SizeRefuses o size (Plan fault) = PlanRefuses o (circuit_by size) (first_indices (circuit_by size).qubits) fault
-SizeRefuses o size _ = ⊥
+SizeRefuses o size r = CircuitRefuses o r (circuit_by size) (first_indices (circuit_by size).qubits)
 
 abbrev pub RefusesBy : Option GenSize → (Option (List ℕ) → (List ℕ → Type 0) → Type 0) → Options → Refusal → Option (List ℕ) → Option (List ℕ) → Type 0
 RefusesBy None Told o r circuit bits = FilesRefuse Told o r circuit bits
@@ -72,9 +89,9 @@ SourceRises None circuit bits = Rises circuit ⊎ Rises bits
 SourceRises (Some size) circuit bits = ⊥
 
 -- ---- what rests on the words alone, whatever the sources tell
--- the plan refuses these options over every circuit and all basis indices, as where the text of part 1 is no list of numbers
+-- these options are refused over every circuit and all basis indices, as where the text of part 1 is no list of numbers
 abbrev pub RefusesAll : Options → Type 0
-RefusesAll o = (c : Circuit) (xs : List ℕ) → (fault : PlanFault) × PlanRefuses o c xs fault
+RefusesAll o = (c : Circuit) (xs : List ℕ) → (r : Refusal) × CircuitRefuses o r c xs
 
 -- a first fault of the plan by the split and the prefix value that are asked for
 abbrev pub IsOfSplit : ℕ → ℕ → Option ℕ → PlanFault → Type 0
@@ -91,9 +108,10 @@ IsOfCut None o fault = (qubits : ℕ) × (fault ≡ Wide qubits)
 IsOfCut (Some part) o fault =
     IsItemFault (items_of part) fault ⊎ ((items : List ℕ) × AreNumbers (items_of part) items × IsOfSplit o.p o.r o.w fault)
 
--- what a refusal says of the words: the plan's of the cut, and any other that the texts are files
+-- what a refusal says of the words: the plan's of the cut, a circuit too deep that probabilities are asked, and any other that the texts are files
 abbrev pub IsOfWords : Options → Refusal → Type 0
 IsOfWords o (Plan fault) = IsOfCut o.part o fault
+IsOfWords o (ProbTooDeep weight) = (o.prob ≡ true) × (o.part ≡ None)
 IsOfWords o r = o.generated ≡ None
 
 -- ---- the journals

@@ -1,9 +1,9 @@
 -- How a request is answered.
-use Rattle.std.specs.Prelude.{◌≡◌, ℕ, ◌<◌, ◌≤◌, ◌⊎◌, false, List, length, Some, None, Option, IfSome, IsSomeAnd, take}
+use Rattle.std.specs.Prelude.{◌≡◌, ℕ, ◌<◌, ◌≤◌, ◌⊎◌, true, false, List, length, Some, None, Option, IfSome, IsSomeAnd, take}
 use Rattle.std.specs.Io.KnownBytes.{Appends}
-use Rattle.qh_limits.specs.Limits.{max_uncut_qubits}
+use Rattle.qh_limits.specs.Limits.{max_uncut_qubits, max_weight}
 use Rattle.qh_counts.specs.Counts.{RoseBy}
-use Rattle.qh_gates.specs.Circuits.{Circuit}
+use Rattle.qh_gates.specs.Circuits.{Circuit, total_weight}
 use Rattle.qh_gates.specs.Evolution.{IsUncutOver}
 use Rattle.qh_plan.specs.Jobs.{Job}
 use Rattle.qh_plan.specs.Verdicts.{total}
@@ -52,12 +52,13 @@ pub record PrintsAsked (o : Options) (j : Job) (out : Seen) (status : ℕ) : Typ
   pub front : status ≡ 6 → (text : List ℕ) × (n : ℕ) × IsJobText o.generated j (job_strings j) text × Appends out.before out.after (take n text)
   pub over : status ≡ 3 → (path : ℕ) × (run_value j ≡ Over path)
 
--- uncut, a coefficient first reaches 2^126 after this gate
+-- uncut, a coefficient first reaches 2^126 after this gate; under --prob none does
 pub record OverflowsAt (o : Options) (circuit bits : Seen) (gate : ℕ) : Type 0 where
   pub value : Circuit
   pub indices : List ℕ
   pub input : IsInput o.generated o.max_time circuit bits value indices
   pub uncut : o.part ≡ None
+  pub amplitudes : o.prob ≡ false
   pub narrow : value.qubits ≤ max_uncut_qubits
   pub over : IsUncutOver value gate
 
@@ -122,5 +123,7 @@ pub record Answers (asked : Option Options) (circuit bits : Option (List ℕ)) (
   pub journal_refused : (o : Options) (j : Job) → Asks asked circuit bits o j
       → (r : JournalRefusal) → JournalRefuses (λ known P. IsSomeAnd known P) (keeping o) j disk old r → (status ≡ 8) ⊎ (status ≡ 7)
   pub uncut : (o : Options) → asked ≡ Some o → (c : Circuit) (xs : List ℕ) → HasInput o.generated o.max_time circuit bits c xs
-      → o.part ≡ None → c.qubits ≤ max_uncut_qubits → (status ≡ 0) ⊎ ((status ≡ 3) ⊎ (status ≡ 7))
+      → o.part ≡ None → o.prob ≡ false → c.qubits ≤ max_uncut_qubits → (status ≡ 0) ⊎ ((status ≡ 3) ⊎ (status ≡ 7))
+  pub prob : (o : Options) → asked ≡ Some o → (c : Circuit) (xs : List ℕ) → HasInput o.generated o.max_time circuit bits c xs
+      → o.part ≡ None → o.prob ≡ true → c.qubits ≤ max_uncut_qubits → total_weight c.gates ≤ max_weight → (status ≡ 0) ⊎ (status ≡ 7)
   pub cut : (o : Options) (j : Job) → Asks asked circuit bits o j → Accepts (keeping o) j disk old → (status ≡ 0) ⊎ ((status ≡ 3) ⊎ (status ≡ 7))

@@ -7,12 +7,13 @@ use Rattle.qh_bits.specs.declared.faults.BitsWhy.{BitsWhy}
 use Rattle.qh_bits.specs.declared.faults.BitsWhy.TheVariants.{NoStrings, TooMany, Letter, Length}
 use Rattle.qh_plan.specs.declared.fault.PlanFault.{PlanFault}
 use Rattle.qh_plan.specs.declared.fault.PlanFault.TheVariants.{PartText, NoSuchQubit, QubitTwice, EmptyPart, PartTooWide, TooManyCrossing, TooManyPaths, PrefixRoot, PrefixValue, TooManyRanges, JournalTooLong, UncutTooWide, Memory as PlanMemory}
+use Rattle.qh_planner.specs.Spelling.{fault_text}
 use Rattle.qh_slots.specs.declared.fault.AttachFault.{AttachFault}
 use Rattle.qh_slots.specs.declared.fault.AttachFault.TheVariants.{DiskFault as AttachDisk, Empty, Unbegun, OldJournal, NotAJournal, OtherJob, BadLength, BadSlot, Memory as AttachMemory}
 use Rattle.qh_migrate.specs.Faults.{attach_of}
 use Rattle.qh_tell.specs.Seen.{Seen, Rises}
 use Rattle.qh_tell.specs.declared.stop.Refusal.{Refusal}
-use Rattle.qh_tell.specs.declared.stop.Refusal.TheVariants.{CircuitTooLong, CircuitLine, BitsTooLong, BitsLine, Plan}
+use Rattle.qh_tell.specs.declared.stop.Refusal.TheVariants.{CircuitTooLong, CircuitLine, BitsTooLong, BitsLine, Plan, ProbTooDeep}
 use Rattle.qh_tell.specs.declared.stop.Input.{Input}
 use Rattle.qh_tell.specs.declared.stop.Input.TheVariants.{OfCircuit, OfBits}
 use Rattle.qh_tell.specs.declared.stop.JournalRefusal.{JournalRefusal}
@@ -50,37 +51,6 @@ bits_why TooMany = codes ": TooMany\n"
 bits_why Letter = codes ": Letter\n"
 bits_why Length = codes ": Length\n"
 
--- a refusal of the plan: its name, and its number where it has one
-abbrev pub plan_name : PlanFault → List ℕ
-plan_name (PartText item) = codes "refused: plan: PartText "
-plan_name (NoSuchQubit qubit) = codes "refused: plan: NoSuchQubit "
-plan_name (QubitTwice qubit) = codes "refused: plan: QubitTwice "
-plan_name EmptyPart = codes "refused: plan: EmptyPart"
-plan_name (PartTooWide qubits) = codes "refused: plan: PartTooWide "
-plan_name (TooManyCrossing count) = codes "refused: plan: TooManyCrossing "
-plan_name (TooManyPaths log2) = codes "refused: plan: TooManyPaths "
-plan_name (PrefixRoot crossing) = codes "refused: plan: PrefixRoot "
-plan_name (PrefixValue prefixes) = codes "refused: plan: PrefixValue "
-plan_name (TooManyRanges ranges) = codes "refused: plan: TooManyRanges "
-plan_name (JournalTooLong bytes) = codes "refused: plan: JournalTooLong "
-plan_name (UncutTooWide qubits) = codes "refused: plan: UncutTooWide "
-plan_name PlanMemory = codes "refused: plan: Memory"
-
-abbrev pub plan_number : PlanFault → List ℕ
-plan_number (PartText item) = decimal item
-plan_number (NoSuchQubit qubit) = decimal qubit
-plan_number (QubitTwice qubit) = decimal qubit
-plan_number EmptyPart = []
-plan_number (PartTooWide qubits) = decimal qubits
-plan_number (TooManyCrossing count) = decimal count
-plan_number (TooManyPaths log2) = decimal log2
-plan_number (PrefixRoot crossing) = decimal crossing
-plan_number (PrefixValue prefixes) = decimal prefixes
-plan_number (TooManyRanges ranges) = decimal ranges
-plan_number (JournalTooLong bytes) = decimal bytes
-plan_number (UncutTooWide qubits) = decimal qubits
-plan_number PlanMemory = []
-
 -- the digits of a number that may be absent
 abbrev pub number_text : Option ℕ → List ℕ
 number_text None = []
@@ -91,7 +61,8 @@ refusal_line CircuitTooLong = codes "refused: circuit too long\n"
 refusal_line (CircuitLine line why) = codes "refused: circuit line " ++ decimal line ++ circuit_why why
 refusal_line BitsTooLong = codes "refused: bitstrings too long\n"
 refusal_line (BitsLine line why) = codes "refused: bitstrings line " ++ decimal line ++ bits_why why
-refusal_line (Plan fault) = plan_name fault ++ plan_number fault ++ codes "\n"
+refusal_line (Plan fault) = codes "refused: plan: " ++ (fault_text fault ++ codes "\n")
+refusal_line (ProbTooDeep weight) = codes "refused: plan: ProbTooDeep " ++ decimal weight ++ codes "\n"
 
 abbrev pub fault_line : Input → List ℕ
 fault_line OfCircuit = codes "read fault: circuit\n"

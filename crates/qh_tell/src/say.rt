@@ -3,7 +3,8 @@ ghost use Rattle.std.specs.Prelude.{◌≡◌, ◌++◌, ◌∷◌, [], true, fa
 ghost use Rattle.std.specs.Io.KnownBytes.{Appends};
 ghost use Rattle.qh_counts.specs.Counts.{Rose};
 ghost use Rattle.qh_tell.specs.Seen.{seen};
-ghost use Rattle.qh_tell.specs.Stops.{message_of, refusal_line, plan_name, plan_number, number_text, circuit_why, bits_why, fault_line, attach_name, attach_number, attach_text, journal_line, Says};
+ghost use Rattle.qh_tell.specs.Stops.{message_of, refusal_line, number_text, circuit_why, bits_why, fault_line, attach_name, attach_number, attach_text, journal_line, Says};
+ghost use Rattle.qh_planner.specs.Spelling.{fault_text};
 ghost use Rattle.qh_migrate.specs.Faults.{attach_of};
 
 use crate::stop::{Input, JournalRefusal, Refusal, Stop};
@@ -13,6 +14,7 @@ use qh_circuit::Why;
 use qh_io::{Sink, write_all_of};
 use qh_migrate::OldRefusal;
 use qh_plan::PlanFault;
+use qh_planner::{fault_name, fault_number};
 use qh_slots::AttachFault;
 
 /// The one line of usage.
@@ -86,57 +88,29 @@ fn say_number<E: Sink>(err: &mut E, before: &str, number: u64, after: &str)
     );
 }
 
-/// The name of a refusal of the plan.
-fn plan_name_text(fault: PlanFault) -> &'static str
-    ensures { result.now ≡ plan_name fault }
+/// Says the name of a refusal of the plan, its number where it has one, and the end of the line.
+fn tell_fault<E: Sink>(err: &mut E, fault: PlanFault)
+    ensures { Says (seen E.held E.faults err.old err.new) (fault_text fault ++ codes "\n") }
 {
-    match fault {
-        PlanFault::PartText { .. } => "refused: plan: PartText ",
-        PlanFault::NoSuchQubit { .. } => "refused: plan: NoSuchQubit ",
-        PlanFault::QubitTwice { .. } => "refused: plan: QubitTwice ",
-        PlanFault::EmptyPart => "refused: plan: EmptyPart",
-        PlanFault::PartTooWide { .. } => "refused: plan: PartTooWide ",
-        PlanFault::TooManyCrossing { .. } => "refused: plan: TooManyCrossing ",
-        PlanFault::TooManyPaths { .. } => "refused: plan: TooManyPaths ",
-        PlanFault::PrefixRoot { .. } => "refused: plan: PrefixRoot ",
-        PlanFault::PrefixValue { .. } => "refused: plan: PrefixValue ",
-        PlanFault::TooManyRanges { .. } => "refused: plan: TooManyRanges ",
-        PlanFault::JournalTooLong { .. } => "refused: plan: JournalTooLong ",
-        PlanFault::UncutTooWide { .. } => "refused: plan: UncutTooWide ",
-        PlanFault::Memory => "refused: plan: Memory",
+    let name = fault_name(fault);
+    let Some(number) = fault_number(fault) else {
+        say_three(err, name.as_bytes(), "".as_bytes(), "\n".as_bytes());
+        return;
+    };
+    if !say(err, name.as_bytes()) {
+        return;
     }
-}
-
-/// The number of a refusal of the plan.
-fn number_of_plan(fault: PlanFault) -> Option<u64>
-    ensures { plan_number fault ≡ number_text result }
-{
-    match fault {
-        PlanFault::PartText { item } => Some(item as u64),
-        PlanFault::NoSuchQubit { qubit } => Some(qubit as u64),
-        PlanFault::QubitTwice { qubit } => Some(qubit as u64),
-        PlanFault::PartTooWide { qubits } => Some(qubits as u64),
-        PlanFault::TooManyCrossing { count } => Some(count as u64),
-        PlanFault::TooManyPaths { log2 } => Some(log2 as u64),
-        PlanFault::PrefixRoot { crossing } => Some(crossing as u64),
-        PlanFault::PrefixValue { prefixes } => Some(prefixes),
-        PlanFault::TooManyRanges { ranges } => Some(ranges),
-        PlanFault::JournalTooLong { bytes } => Some(bytes),
-        PlanFault::UncutTooWide { qubits } => Some(qubits as u64),
-        PlanFault::EmptyPart | PlanFault::Memory => None,
-    }
+    say_number(err, " ", number, "\n");
 }
 
 /// Says why a plan is refused.
 fn tell_plan<E: Sink>(err: &mut E, fault: PlanFault)
-    ensures { Says (seen E.held E.faults err.old err.new) (plan_name fault ++ plan_number fault ++ codes "\n") }
+    ensures { Says (seen E.held E.faults err.old err.new) (codes "refused: plan: " ++ (fault_text fault ++ codes "\n")) }
 {
-    let name = plan_name_text(fault);
-    let Some(number) = number_of_plan(fault) else {
-        say_three(err, name.as_bytes(), "".as_bytes(), "\n".as_bytes());
+    if !say(err, "refused: plan: ".as_bytes()) {
         return;
-    };
-    say_number(err, name, number, "\n");
+    }
+    tell_fault(err, fault);
 }
 
 /// Says why a text is refused.
@@ -158,6 +132,9 @@ fn tell_refusal<E: Sink>(err: &mut E, refusal: Refusal)
         }
         Refusal::Plan(fault) => {
             tell_plan(err, fault);
+        }
+        Refusal::ProbTooDeep { weight } => {
+            say_number(err, "refused: plan: ProbTooDeep ", weight as u64, "\n");
         }
     }
 }

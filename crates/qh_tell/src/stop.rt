@@ -18,6 +18,8 @@ pub enum Refusal {
     BitsLine { line: u64, why: BitsWhy },
     /// Why the plan refuses: the text of part 1, the cut, the split, or an uncut circuit of more than 16 qubits.
     Plan(PlanFault),
+    /// Probabilities are asked of a circuit whose weight is this, above 120.
+    ProbTooDeep { weight: u32 },
 }
 
 /// Why a journal is refused: that of the run, or the old one that is to be taken over.

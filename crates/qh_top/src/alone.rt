@@ -85,6 +85,9 @@ pub fn qsimh_alone<C: Source, B: Source, O: Sink, E: Sink, D: Disk, F: Disk, T: 
         (MayStop (request words.now) (seen C.left C.faults circuit.old circuit.new) (seen B.left B.faults bits.old bits.new) (seen O.held O.faults out.old out.new) (D.face disk.old) (D.face disk.new) (F.face old.old) (F.face old.new))
         (Says (seen E.held E.faults err.old err.new)) }
 
+    // Probabilities are over nowhere.
+    ensures prob_fits { (o : OptionsValue) → request words.now ≡ Some o → o.prob ≡ true → result ≢ 3 }
+
     // Untouched: only a write fault leaves anything in the sink. No call is made on a disk before a job is accepted that keeps a journal.
     ensures untouched { result ≢ 0 → result ≢ 6 → out.new ≡ out.old }
     ensures disks_alone { EndsEarly result → (disk.new ≡ disk.old) × (old.new ≡ old.old) }

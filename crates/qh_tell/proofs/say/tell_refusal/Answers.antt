@@ -18,3 +18,6 @@ returns-in-BitsLine g c =
 
 pub returns-in-Plan : goal.returns-in-Plan
 returns-in-Plan g c = subst (Says _) (sym (ap refusal_line c.in-Plan.is)) c.tell_plan.ensures
+
+pub returns-in-ProbTooDeep : goal.returns-in-ProbTooDeep
+returns-in-ProbTooDeep g c = subst (Says _) (sym (ap refusal_line c.in-ProbTooDeep.is)) c.say_number-in-ProbTooDeep.ensures
