@@ -93,11 +93,12 @@ fn tell_fault<E: Sink>(err: &mut E, fault: PlanFault)
     ensures { Says (seen E.held E.faults err.old err.new) (fault_text fault ++ codes "\n") }
 {
     let name = fault_name(fault);
+    let bytes = name.as_bytes();
     let Some(number) = fault_number(fault) else {
-        say_three(err, name.as_bytes(), "".as_bytes(), "\n".as_bytes());
+        say_three(err, bytes, "".as_bytes(), "\n".as_bytes());
         return;
     };
-    if !say(err, name.as_bytes()) {
+    if !say(err, bytes) {
         return;
     }
     say_number(err, " ", number, "\n");
