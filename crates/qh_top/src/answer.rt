@@ -60,7 +60,7 @@ fn state_values(
 }
 
 /// The first line of a generated circuit.
-#[tactic(auto, unfolding(crate::specs::Answer::gen_line))]
+#[tactic(auto, unfolding(qh_request::specs::Answer::gen_line))]
 fn gen_line(
     alloc: Global,
     circuit: &Circuit,
