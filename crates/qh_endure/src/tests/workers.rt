@@ -28,6 +28,7 @@ fn place_of(point: Point) -> Place {
 }
 
 /// A gate at which one worker ends at one point.
+#[derive(Clone, Copy)]
 struct QuitGate {
     worker: u32,
     place: Place,
