@@ -1,0 +1,2 @@
+-- What the contract of the call cites.
+pub mod Outcomes
