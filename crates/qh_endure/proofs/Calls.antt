@@ -19,19 +19,19 @@ use Rattle.qh_slots.specs.declared.fault.AttachFault.TheVariants.{Empty}
 use Rattle.qh_record.specs.Moments.{IsMade, BeginsTrue, IsUnwritten}
 use Rattle.qh_words.specs.declared.options.Options.{Options}
 use Rattle.qh_words.specs.declared.size.GenSize.{GenSize}
-use Rattle.qh_top.specs.Seen.{Seen}
-use Rattle.qh_top.specs.Inputs.{IsCircuitFile, IsBitsFile, IsInput, HasInput}
-use Rattle.qh_top.specs.Jobs.{Asks, Takes, keeping, job_strings}
-use Rattle.qh_top.specs.Refusals.{RefusesBy, Refuses, Reading, JournalRefuses}
-use Rattle.qh_top.specs.Request.{RunIsWhole, EndsWhole, PrintsAsked}
-use Rattle.qh_top.specs.Stops.{status_of, MayStopBy, MayStop, Stops}
-use Rattle.qh_top.specs.declared.stop.Refusal.{Refusal}
-use Rattle.qh_top.specs.declared.stop.Refusal.TheVariants.{CircuitTooLong, CircuitLine, BitsTooLong, BitsLine, Plan}
-use Rattle.qh_top.specs.declared.stop.Input.TheVariants.{OfCircuit, OfBits}
-use Rattle.qh_top.specs.declared.stop.JournalRefusal.{JournalRefusal}
-use Rattle.qh_top.specs.declared.stop.JournalRefusal.TheVariants.{OfJournal, OfOld}
-use Rattle.qh_top.specs.declared.stop.Stop.{Stop}
-use Rattle.qh_top.specs.declared.stop.Stop.TheVariants.{Usage, Refused, OverflowGate, OverflowPath, ReadFault, DiskFault, WriteFault, Memory, Journal}
+use Rattle.qh_tell.specs.Seen.{Seen}
+use Rattle.qh_request.specs.Inputs.{IsCircuitFile, IsBitsFile, IsInput, HasInput}
+use Rattle.qh_request.specs.Jobs.{Asks, Takes, keeping, job_strings}
+use Rattle.qh_request.specs.Refusals.{RefusesBy, Refuses, Reading, JournalRefuses}
+use Rattle.qh_request.specs.Request.{RunIsWhole, EndsWhole, PrintsAsked}
+use Rattle.qh_tell.specs.Stops.{status_of, MayStopBy, MayStop, Stops}
+use Rattle.qh_tell.specs.declared.stop.Refusal.{Refusal}
+use Rattle.qh_tell.specs.declared.stop.Refusal.TheVariants.{CircuitTooLong, CircuitLine, BitsTooLong, BitsLine, Plan}
+use Rattle.qh_tell.specs.declared.stop.Input.TheVariants.{OfCircuit, OfBits}
+use Rattle.qh_tell.specs.declared.stop.JournalRefusal.{JournalRefusal}
+use Rattle.qh_tell.specs.declared.stop.JournalRefusal.TheVariants.{OfJournal, OfOld}
+use Rattle.qh_tell.specs.declared.stop.Stop.{Stop}
+use Rattle.qh_tell.specs.declared.stop.Stop.TheVariants.{Usage, Refused, OverflowGate, OverflowPath, ReadFault, DiskFault, WriteFault, Memory, Journal}
 use Rattle.qh_endure.specs.Outcomes.{KeepsOwnJournal, IsMadeNow, EndsWithAnswer, IsRefused, IsOver, RefusesFile, Ends}
 
 -- a source that never fails, which told a text and has this left

@@ -13,7 +13,7 @@ use Rattle.qh_slots.specs.Layout.{mark}
 use Rattle.qh_slots.specs.Stands.{Made}
 use Rattle.qh_record.specs.Moments.{IsEmptyAt}
 use Rattle.qh_words.specs.declared.options.Options.{Options}
-use Rattle.qh_top.specs.Jobs.{Asks}
+use Rattle.qh_request.specs.Jobs.{Asks}
 use Rattle.qh_endure.specs.Outcomes.{IsMadeSince, IsMadeNow, Proceeds, Ends}
 use Rattle.qh_endure.proofs.Calls.{each_now}
 

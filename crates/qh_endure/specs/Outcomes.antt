@@ -13,10 +13,10 @@ use Rattle.qh_slots.specs.Attaching.{first_refusal}
 use Rattle.qh_slots.specs.declared.fault.AttachFault.{AttachFault}
 use Rattle.qh_slots.specs.declared.fault.AttachFault.TheVariants.{Empty}
 use Rattle.qh_words.specs.declared.options.Options.{Options}
-use Rattle.qh_top.specs.Jobs.{Asks, job_strings}
-use Rattle.qh_top.specs.Answer.{IsJobText}
-use Rattle.qh_top.specs.Refusals.{Refuses}
-use Rattle.qh_top.specs.declared.stop.Refusal.{Refusal}
+use Rattle.qh_request.specs.Jobs.{Asks, job_strings}
+use Rattle.qh_request.specs.Answer.{IsJobText}
+use Rattle.qh_request.specs.Refusals.{Refuses}
+use Rattle.qh_tell.specs.declared.stop.Refusal.{Refusal}
 
 -- the circuit is cut, and a journal is kept that takes over no old one
 pub record KeepsOwnJournal (o : Options) : Type 0 where

@@ -5,7 +5,7 @@ ghost use Rattle.qh_counts.specs.Counts.{Rose};
 ghost use Rattle.qh_disk.specs.History.{face_of, content_of};
 ghost use Rattle.qh_disk.specs.Moments.{Runs};
 ghost use Rattle.qh_record.specs.Moments.{IsEmptyAt};
-ghost use Rattle.qh_top.specs.Jobs.{request};
+ghost use Rattle.qh_request.specs.Jobs.{request};
 ghost use Rattle.qh_endure.specs.Outcomes.{KeepsOwnJournal, IsMadeSince, IsMadeNow, EndsWithAnswer, IsRefused, IsOver, RefusesFile, Proceeds, Ends};
 
 use crate::round::Round;

@@ -5,7 +5,7 @@ mod workers;
 
 ghost use Rattle.std.specs.Prelude.{IfOk, IsTrue};
 ghost use Rattle.std.specs.Option.{ForSome};
-ghost use Rattle.qh_top.specs.Jobs.{request};
+ghost use Rattle.qh_request.specs.Jobs.{request};
 ghost use Rattle.qh_endure.specs.Outcomes.{KeepsOwnJournal};
 
 use crate::tests::alone::{Alone, Told, answers};

@@ -1,4 +1,4 @@
-use Rattle.qh_top.specs.Jobs.{request}
+use Rattle.qh_request.specs.Jobs.{request}
 use Rattle.qh_endure.proofs.Rounds.{crashed_on, made_now, proceeds_on, ends_since}
 use Rattle.qh_endure.proofs.enduring.endure.Goals as goal
 

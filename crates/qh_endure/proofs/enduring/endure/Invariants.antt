@@ -1,4 +1,4 @@
-use Rattle.qh_top.specs.Jobs.{request}
+use Rattle.qh_request.specs.Jobs.{request}
 use Rattle.qh_endure.proofs.Rounds.{Endures}
 use Rattle.qh_endure.proofs.enduring.endure.Given as goal
 
