@@ -27,9 +27,13 @@ fresh_rule = record (new_rule (codes "new")) { long = Some (codes "new"); action
 abbrev pub from_rule : Rule
 from_rule = record (new_rule (codes "from")) { long = Some (codes "from"); action = Some Set }
 
+-- the flag `--prob`, which the matches know as they know `--new`
+abbrev pub prob_rule : Rule
+prob_rule = record (new_rule (codes "prob")) { long = Some (codes "prob"); action = Some SetTrue }
+
 -- the command with its options, none of which is required
 unfoldable pub command : App
-command = with_rule (with_rule (fold with_letter (new_app program) letters) fresh_rule) from_rule
+command = with_rule (with_rule (with_rule (fold with_letter (new_app program) letters) fresh_rule) from_rule) prob_rule
 
 -- `clap` takes the words; it refuses help
 abbrev pub is_taken : List Text → Bool

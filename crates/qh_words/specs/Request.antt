@@ -53,6 +53,10 @@ has_cut value = is_some (value (codes "k"))
 abbrev pub has_journal : Values → Bool
 has_journal value = is_some (value (codes "j")) || not (is_set (value (codes "new")) || is_some (value (codes "from")))
 
+-- probabilities are asked only of a circuit that is not cut
+abbrev pub has_prob : Values → Bool
+has_prob value = not (is_set (value (codes "prob"))) || not (is_some (value (codes "k")))
+
 -- the options, by their values
 abbrev pub asked : Values → Options
 asked value = record {
@@ -70,6 +74,7 @@ asked value = record {
   workers = number_or 1 (value (codes "t"));
   lease = option_map value_of (value (codes "l"));
   from = value (codes "from");
+  prob = is_set (value (codes "prob"));
 }
 
 -- a run has 1 to 16 workers
@@ -78,7 +83,7 @@ HasWorkers o = (1 ≤ o.workers) × (o.workers ≤ max_workers)
 
 abbrev pub options_by : Values → Option Options
 options_by value =
-    if has_numbers value && has_source value && has_cut value && has_journal value then Some (asked value) else None
+    if has_numbers value && has_source value && has_cut value && has_journal value && has_prob value then Some (asked value) else None
 
 -- what the words after the program's name ask for; none where they are no request
 unfoldable pub options_of : List (List ℕ) → Option Options

@@ -3,7 +3,7 @@
 ghost use Rattle.std.specs.Prelude.{◌≡◌, ◌≢◌, ◌∷◌, [], IfOk, OnOk, fold, map};
 ghost use Rattle.std.specs.Option.{option_copied};
 ghost use Rattle.clap.specs.Words.{HasMatchesOf, app_of, fault_of, with_rule};
-ghost use Rattle.qh_words.specs.Command.{command, fresh_rule, from_rule, value_in, with_letter};
+ghost use Rattle.qh_words.specs.Command.{command, fresh_rule, from_rule, prob_rule, value_in, with_letter};
 ghost use Rattle.qh_words.specs.Request.{is_set};
 
 use crate::fault::WordsFault;
@@ -74,7 +74,8 @@ fn command_line<'a>(alloc: Global) -> Result<Command<'a>, AllocError>
 {
     let command = Command::new(alloc, "qsimh_amplitudes");
     let command = with_options(alloc, command, &OPTIONS)?;
-    with_journal_options(alloc, command)
+    let command = with_journal_options(alloc, command)?;
+    with_prob(alloc, command)
 }
 
 /// The command with the options that have no letter.
@@ -86,6 +87,16 @@ fn with_journal_options<'a>(alloc: Global, command: Command<'a>) -> Result<Comma
         .action(ArgAction::SetTrue);
     let from = Arg::new(alloc, "from").long("from").action(ArgAction::Set);
     command.arg(fresh)?.arg(from)
+}
+
+/// The command with the flag that asks for probabilities.
+fn with_prob<'a>(alloc: Global, command: Command<'a>) -> Result<Command<'a>, AllocError>
+    ensures { IfOk result (λ c. app_of c ≡ with_rule (app_of command.entry) prob_rule) }
+{
+    let prob = Arg::new(alloc, "prob")
+        .long("prob")
+        .action(ArgAction::SetTrue);
+    command.arg(prob)
 }
 
 /// The command with these options too, each of which is named by its letter.

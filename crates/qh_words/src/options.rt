@@ -34,4 +34,6 @@ pub struct Options {
     pub lease: Option<u64>,
     /// `--from`: the file of a journal of the first format, from which an empty journal is filled.
     pub from: Option<Text>,
+    /// `--prob`: the lines have probabilities in place of amplitudes.
+    pub prob: bool,
 }

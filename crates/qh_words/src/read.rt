@@ -3,7 +3,7 @@
 ghost use Rattle.std.specs.Prelude.{◌≡◌, ◌∷◌, IfOk, IfSome, IsTrue, codes, map, option_and_then, string_bytes};
 ghost use Rattle.std.specs.Option.{SomeIff, option_copied};
 ghost use Rattle.qh_words.specs.Command.{program, value_in};
-ghost use Rattle.qh_words.specs.Request.{HasWorkers, has_cut, has_journal, has_source, is_set, options_by, options_of};
+ghost use Rattle.qh_words.specs.Request.{HasWorkers, has_cut, has_journal, has_prob, has_source, is_set, options_by, options_of};
 ghost use Rattle.qh_words.specs.Size.{IsGenSize, size_of};
 
 use crate::command::{is_set, matches, value};
@@ -21,7 +21,7 @@ use std::alloc::{AllocError, Global};
 /// unknown option, an option twice and a stray word. A number is no decimal number of its range.
 /// `-c` or `-i` is absent without `-g`. `-g` stands with `-c`, `-i` or `-d`, or its value is no
 /// size. `-p`, `-r`, `-w`, `-l`, `-j` or `--new` stands without `-k`. `--new` or `--from` stands
-/// without `-j`. Memory is want of memory alone.
+/// without `-j`. `--prob` stands with `-k`. Memory is want of memory alone.
 pub fn read_words(alloc: Global, words: &[String]) -> Result<Options, WordsFault>
     ensures asked { IfOk result (λ o. options_of (map string_bytes words.now) ≡ Some o) }
     ensures usage { result ≡ Err WordsFault.Usage → options_of (map string_bytes words.now) ≡ None }
@@ -62,6 +62,9 @@ fn read_options(alloc: Global, matches: &ArgMatches<'_>) -> Result<Options, Word
         return Err(WordsFault::Usage);
     }
     if !has_journal_options(matches) {
+        return Err(WordsFault::Usage);
+    }
+    if !has_prob_alone(matches) {
         return Err(WordsFault::Usage);
     }
     let Ok(options) = with_texts(alloc, matches, numbers, generated) else {
@@ -112,6 +115,13 @@ fn has_journal_options(matches: &ArgMatches<'_>) -> bool
     value(matches, "j").is_some() || !(is_set(matches, "new") || value(matches, "from").is_some())
 }
 
+/// Probabilities stand only without a part 1.
+fn has_prob_alone(matches: &ArgMatches<'_>) -> bool
+    ensures { result ≡ has_prob (value_in matches.now) }
+{
+    !is_set(matches, "prob") || value(matches, "k").is_none()
+}
+
 /// The options with copies of their texts.
 fn with_texts(
     alloc: Global,
@@ -134,6 +144,7 @@ fn with_texts(
       workers = numbers.workers;
       lease = numbers.lease;
       from = value_in matches.now (codes "from");
+      prob = is_set (value_in matches.now (codes "prob"));
     }) }
 {
     Ok(Options {
@@ -151,6 +162,7 @@ fn with_texts(
         workers: numbers.workers,
         lease: numbers.lease,
         from: copied(alloc, value(matches, "from"))?,
+        prob: is_set(matches, "prob"),
     })
 }
 

@@ -78,6 +78,11 @@ fn refuses_what_is_no_request(rt: HostRuntime) {
         "-c a -i b -k 0 -j f -f g",
         "-c a -i b -k 0 -j f --ne",
         "-c a -i b -k 0 --j f",
+        "-c a -i b -k 0 --prob",
+        "--prob -g 1,2,2,3 -k auto",
+        "-c a -i b --prob --prob",
+        "-c a -i b --prob=true",
+        "-c a --prob",
     ] {
         assert!(rt;
             read(rt.alloc(), line).err() == Some(WordsFault::Usage),
@@ -114,7 +119,13 @@ fn refuses_what_is_no_size(rt: HostRuntime) {
 
 #[test]
 fn reads_defaults(rt: HostRuntime) -> Result<(), Fail> {
-    for line in ["-c a -i b", "-i b -c a", "-ca -i=b", "-v 7 -c a -i b"] {
+    for (line, prob) in [
+        ("-c a -i b", false),
+        ("-i b -c a", false),
+        ("-ca -i=b", false),
+        ("-v 7 -c a -i b", false),
+        ("-c a --prob -i b", true),
+    ] {
         let options = read(rt.alloc(), line).ok().ok_or("a request")?;
         assert_eq!(rt; text(&options.circuit), "a");
         assert_eq!(rt; text(&options.bits), "b");
@@ -126,6 +137,7 @@ fn reads_defaults(rt: HostRuntime) -> Result<(), Fail> {
         assert_eq!(rt; options.workers, 1);
         assert_eq!(rt; options.lease, None);
         assert_eq!(rt; options.generated, None);
+        assert_eq!(rt; options.prob, prob, "at {line}");
         assert!(rt; options.journal.is_none() && options.from.is_none() && !options.fresh);
     }
     Ok(())

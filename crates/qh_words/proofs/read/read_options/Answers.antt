@@ -6,4 +6,4 @@ use Rattle.qh_words.proofs.read.read_options.Goals as goal
 
 pub returns-in_default-read_source-clause-usage : goal.returns-in_default-read_source-clause-usage
 returns-in_default-read_source-clause-usage c =
-    λ _. no_source _ _ _ _ _ (false_from_ne_true (has_source (value_in c.args.matches.now)) c.in_default-read_source.ensures)
+    λ _. no_source _ _ _ _ _ _ (false_from_ne_true (has_source (value_in c.args.matches.now)) c.in_default-read_source.ensures)
