@@ -7,14 +7,18 @@
 
 mod choice;
 mod crossing;
+mod fault;
 mod laws;
+mod print;
 mod refusal;
 mod row;
 mod table;
 mod text;
 
 pub use choice::cheapest;
+pub use fault::{fault_name, fault_number};
 pub use laws::chosen_cut_is_best;
+pub use print::print_table;
 pub use row::{CutAnswer, CutRow};
 pub use table::cut_table;
 

@@ -1,5 +1,5 @@
-//! Worked rows: tables of cuts by hand, and the row to take.
-use crate::{CutAnswer, CutRow, cheapest, cut_table};
+//! Worked rows: tables of cuts by hand, their texts, and the row to take.
+use crate::{CutAnswer, CutRow, cheapest, cut_table, print_table};
 use qh_circuit::read_circuit;
 use qh_plan::{PlanFault, are_bits};
 use std::alloc::Global;
@@ -27,14 +27,14 @@ fn refused(size: u32, fault: PlanFault) -> CutRow {
     }
 }
 
-/// Whether the table of the circuit is this one, and its cheapest row has this size.
+/// Whether the table of the circuit is this one with this text, and its cheapest row has this size.
 fn expect(
     rt: &impl Abort,
     alloc: Global,
     text: &[u8],
     (p, w): (u32, Option<u32>),
     rows: &[CutRow],
-    size: Option<u32>,
+    (lines, size): (&str, Option<u32>),
 ) -> Result<(), Fail> {
     let circuit = read_circuit(alloc, text, u32::MAX)?;
     let bits = [0u64];
@@ -42,6 +42,8 @@ fn expect(
     assert!(rt; are_bits(circuit.qubits(), &bits));
     let table = cut_table(alloc, &circuit, p, 0, w, &bits)?;
     assert_eq!(rt; table.as_slice(), rows);
+    let written = print_table(alloc, &table)?;
+    assert_eq!(rt; written.as_slice(), lines.as_bytes());
     assert_eq!(rt; cheapest(&table), size);
     Ok(())
 }
@@ -57,18 +59,68 @@ fn tables(rt: HostRuntime) -> Result<(), Fail> {
         refused(1, PlanFault::PrefixValue { prefixes: 2 }),
         allowed(2, 2, 24),
     ];
-    expect(
-        &rt,
-        rt.alloc(),
-        BELL,
-        (0, None),
-        &[allowed(1, 1, 8)],
-        Some(1),
-    )?;
-    expect(&rt, rt.alloc(), CHAIN, (0, None), &both, Some(1))?;
-    expect(&rt, rt.alloc(), CHAIN, (2, None), &split, None)?;
-    expect(&rt, rt.alloc(), CHAIN, (1, Some(2)), &value, Some(2))?;
-    expect(&rt, rt.alloc(), b"1\n0 h 0\n", (0, None), &[], None)
+    let bell = [allowed(1, 1, 8)];
+    let bell_end = ("cut 1 1 8\n", Some(1));
+    let both_end = ("cut 1 1 12\ncut 2 2 24\n", Some(1));
+    let split_end = ("cut 1 PrefixRoot 1\ncut 2 PrefixRoot 1\n", None);
+    let value_end = ("cut 1 PrefixValue 2\ncut 2 2 24\n", Some(2));
+    expect(&rt, rt.alloc(), BELL, (0, None), &bell, bell_end)?;
+    expect(&rt, rt.alloc(), CHAIN, (0, None), &both, both_end)?;
+    expect(&rt, rt.alloc(), CHAIN, (2, None), &split, split_end)?;
+    expect(&rt, rt.alloc(), CHAIN, (1, Some(2)), &value, value_end)?;
+    expect(&rt, rt.alloc(), b"1\n0 h 0\n", (0, None), &[], ("", None))
+}
+
+/// A refusal's line has its name, and its number where it has one.
+#[test]
+fn refusals(rt: HostRuntime) -> Result<(), Fail> {
+    let wide = 18446744073709551615;
+    for (fault, line) in [
+        (PlanFault::PartText { item: 0 }, "cut 39 PartText 0\n"),
+        (
+            PlanFault::NoSuchQubit { qubit: 4294967295 },
+            "cut 39 NoSuchQubit 4294967295\n",
+        ),
+        (PlanFault::QubitTwice { qubit: 7 }, "cut 39 QubitTwice 7\n"),
+        (PlanFault::EmptyPart, "cut 39 EmptyPart\n"),
+        (
+            PlanFault::PartTooWide { qubits: 21 },
+            "cut 39 PartTooWide 21\n",
+        ),
+        (
+            PlanFault::TooManyCrossing { count: 33 },
+            "cut 39 TooManyCrossing 33\n",
+        ),
+        (
+            PlanFault::TooManyPaths { log2: 64 },
+            "cut 39 TooManyPaths 64\n",
+        ),
+        (
+            PlanFault::PrefixRoot { crossing: 10 },
+            "cut 39 PrefixRoot 10\n",
+        ),
+        (
+            PlanFault::PrefixValue { prefixes: 4 },
+            "cut 39 PrefixValue 4\n",
+        ),
+        (
+            PlanFault::TooManyRanges { ranges: 32768 },
+            "cut 39 TooManyRanges 32768\n",
+        ),
+        (
+            PlanFault::JournalTooLong { bytes: wide },
+            "cut 39 JournalTooLong 18446744073709551615\n",
+        ),
+        (
+            PlanFault::UncutTooWide { qubits: 17 },
+            "cut 39 UncutTooWide 17\n",
+        ),
+        (PlanFault::Memory, "cut 39 Memory\n"),
+    ] {
+        let written = print_table(rt.alloc(), &[refused(39, fault)])?;
+        assert_eq!(rt; written.as_slice(), line.as_bytes());
+    }
+    Ok(())
 }
 
 /// A cut of 22 qubits leaves one part more than 20 at both ends.

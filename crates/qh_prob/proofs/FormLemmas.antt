@@ -20,7 +20,7 @@ plus_injective x y e =
     let eq : x.q +ℤ x.q ≡ y.q +ℤ y.q = ap (λ (z : Prob). z.q) e in
     same_prob x y (omega (arith, ints)) (omega (arith, ints))
 
-doubled_injective : (n : ℕ) (x y : Prob) → doubled n x ≡ doubled n y → x ≡ y
+pub doubled_injective : (n : ℕ) (x y : Prob) → doubled n x ≡ doubled n y → x ≡ y
 doubled_injective zero x y e = e
 doubled_injective (suc n) x y e = doubled_injective n x y (plus_injective _ _ e)
 

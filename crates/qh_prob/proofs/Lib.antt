@@ -6,3 +6,4 @@ pub mod UnitaryLemmas
 pub mod TotalLemmas
 pub mod FormLemmas
 pub mod LineLemmas
+pub mod TextLemmas

@@ -1,16 +1,18 @@
 //! The probabilities of all basis indices.
-ghost use Rattle.std.specs.Prelude.{◌≡◌, ◌≤◌, ◌+ℤ◌, ◌-ℤ◌, ◌*ℤ◌, All, IfOk};
+ghost use Rattle.std.specs.Prelude.{◌≡◌, ◌≤◌, ◌+ℤ◌, ◌-ℤ◌, ◌*ℤ◌, All, IfErr, IfOk};
 ghost use Rattle.qh_limits.specs.Limits.{max_uncut_qubits, max_weight};
 ghost use Rattle.qh_ring.specs.Numbers.{IsBelow, IsWithin};
 ghost use Rattle.qh_ring.specs.States.{listed};
 ghost use Rattle.qh_gates.specs.Circuits.{IsCircuit, total_weight};
 ghost use Rattle.qh_gates.specs.Evolution.{uncut};
+ghost use Rattle.qh_uncut.specs.Faults.{IsCause};
 ghost use Rattle.qh_prob.specs.Probability.{IsBounded, certain, probabilities, probability, total};
 
 use qh_gates::Circuit;
 use qh_ring::Omega;
-use qh_uncut::{UncutFault, evolve};
+use qh_uncut::{UncutFault, evolve, evolve_chunks};
 use std::alloc::{AllocError, Global};
+use std::thread::Threads;
 
 /// The number P + Q√2. Over 2^k it is a probability.
 #[derive(Clone, Copy, PartialEq, Eq, Debug)]
@@ -31,26 +33,76 @@ pub fn all_probabilities(alloc: Global, circuit: &Circuit) -> Result<Vec<Prob>, 
     ensures certain { IfOk result (λ v. total v.items ≡ certain (total_weight circuit.now.gates)) }
     ensures bounded { IfOk result (λ v. All IsBounded v.items) }
 {
+    let evolved = evolve(alloc, circuit);
+    probabilities_of(alloc, circuit, evolved)
+}
+
+/// As [`all_probabilities`], by several threads, which it joins. It takes 64 bytes an index once more.
+pub fn chunk_probabilities<R: Threads + Sync>(
+    rt: &R,
+    alloc: Global,
+    circuit: &Circuit,
+) -> Result<Vec<Prob>, AllocError>
+    requires narrow { circuit.now.qubits ≤ max_uncut_qubits }
+    requires shallow { total_weight circuit.now.gates ≤ max_weight }
+    ensures exact { IfOk result (λ v. v.items ≡ probabilities circuit.now) }
+    ensures certain { IfOk result (λ v. total v.items ≡ certain (total_weight circuit.now.gates)) }
+    ensures bounded { IfOk result (λ v. All IsBounded v.items) }
+{
+    let evolved = evolve_chunks(rt, alloc, circuit);
+    probabilities_of(alloc, circuit, evolved)
+}
+
+/// The probability of each basis index, by the state with which the circuit's evolution ended.
+fn probabilities_of(
+    alloc: Global,
+    circuit: &Circuit,
+    evolved: Result<Vec<Omega>, UncutFault>,
+) -> Result<Vec<Prob>, AllocError>
+    requires narrow { circuit.now.qubits ≤ max_uncut_qubits }
+    requires shallow { total_weight circuit.now.gates ≤ max_weight }
+    requires exact { IfOk evolved (λ v. v.items ≡ listed circuit.now.qubits (uncut circuit.now.gates)) }
+    requires cause { IfErr evolved (IsCause circuit.now) }
+    ensures exact { IfOk result (λ v. v.items ≡ probabilities circuit.now) }
+    ensures certain { IfOk result (λ v. total v.items ≡ certain (total_weight circuit.now.gates)) }
+    ensures bounded { IfOk result (λ v. All IsBounded v.items) }
+{
     let mut probs = Vec::with_capacity(alloc, 1 << circuit.qubits())?;
-    let state = state_of(alloc, circuit)?;
+    let state = state_of(circuit, evolved)?;
     for z in &state {
         probs.push(probability(z))?;
     }
     Ok(probs)
 }
 
-/// The state after all gates, whose coefficients have a magnitude below 2^61. An Err is want of memory.
-fn state_of(alloc: Global, circuit: &Circuit) -> Result<Vec<Omega>, AllocError>
+/// The state with which the circuit's evolution ended, whose coefficients have a magnitude below 2^61. An Err is want
+/// of memory.
+fn state_of(
+    circuit: &Circuit,
+    evolved: Result<Vec<Omega>, UncutFault>,
+) -> Result<Vec<Omega>, AllocError>
     requires valid { IsCircuit circuit.now }
-    requires narrow { circuit.now.qubits ≤ max_uncut_qubits }
     requires shallow { total_weight circuit.now.gates ≤ max_weight }
+    requires exact { IfOk evolved (λ v. v.items ≡ listed circuit.now.qubits (uncut circuit.now.gates)) }
+    requires cause { IfErr evolved (IsCause circuit.now) }
     ensures exact { IfOk result (λ v. v.items ≡ listed circuit.now.qubits (uncut circuit.now.gates)) }
     ensures small { IfOk result (λ v. All (IsWithin 61) v.items) }
 {
-    match evolve(alloc, circuit) {
+    match evolved {
         Ok(state) => Ok(state),
-        Err(UncutFault::Memory) => Err(AllocError),
-        Err(UncutFault::Over { .. }) => unreachable!(),
+        Err(fault) => Err(memory_fault(circuit, fault)),
+    }
+}
+
+/// The want of memory that a fault of the evolution is, since no gate overflows.
+fn memory_fault(circuit: &Circuit, fault: UncutFault) -> AllocError
+    requires valid { IsCircuit circuit.now }
+    requires shallow { total_weight circuit.now.gates ≤ max_weight }
+    requires cause { IsCause circuit.now fault }
+{
+    match fault {
+        UncutFault::Memory => AllocError,
+        UncutFault::Over { .. } => unreachable!(),
     }
 }
 

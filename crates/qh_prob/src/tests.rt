@@ -1,13 +1,15 @@
 //! Worked rows: probabilities by hand from the table of the gates, their least forms, and their lines.
-ghost use Rattle.std.specs.Prelude.{IfSome};
+ghost use Rattle.std.specs.Prelude.{◌<◌, ◌≤◌, ◌^◌, All, IfSome, IsTrue};
+ghost use Rattle.qh_limits.specs.Limits.{max_qubits};
 ghost use Rattle.qh_prob.specs.Probability.{IsBounded};
 
-use crate::{Prob, all_probabilities, least, print_prob};
+use crate::{Prob, all_probabilities, chunk_probabilities, least, print_prob, prob_lines};
 use qh_gates::{Circuit, Gate, Kind, arity};
 use qh_limits::{MAX_QUBITS, MAX_UNCUT_QUBITS, MAX_WEIGHT};
 use std::alloc::{AllocError, Global};
 use std::process::Abort;
 use std::test::Fail;
+use std::thread::Threads;
 
 /// 2^120.
 const LARGEST: i128 = 1329227995784915872903807060280344576;
@@ -90,30 +92,89 @@ fn circuit_of(
     Ok(circuit)
 }
 
-/// Whether these are the circuit's probabilities.
-fn expect(rt: &impl Abort, alloc: Global, kinds: &[Kind], pairs: &[Prob]) -> Result<(), Fail> {
-    let circuit = circuit_of(rt, alloc, 2, kinds)?;
+/// Whether these are the circuit's probabilities, also by threads, and those behind them 0.
+fn expect(
+    rt: &(impl Abort + Threads + Sync),
+    alloc: Global,
+    qubits: u32,
+    kinds: &[Kind],
+    pairs: [Prob; 4],
+) -> Result<(), Fail> {
+    let circuit = circuit_of(rt, alloc, qubits, kinds)?;
     assert!(rt; circuit.qubits() <= MAX_UNCUT_QUBITS);
     assert!(rt; circuit.weight() <= MAX_WEIGHT);
     let probs = all_probabilities(alloc, &circuit)?;
-    assert_eq!(rt; probs.as_slice(), pairs, "{kinds:?}");
+    let by_threads = chunk_probabilities(rt, alloc, &circuit)?;
+    assert_eq!(rt; by_threads, probs, "{kinds:?}");
+    let (front, back) = probs.split_at_checked(4).ok_or("short")?;
+    assert_eq!(rt; front, pairs.as_slice(), "{kinds:?}");
+    assert!(rt; back.iter().all(|x| *x == NEVER));
     Ok(())
 }
 
+const NEVER: Prob = Prob { p: 0, q: 0 };
+
 #[test]
 fn probabilities(rt: HostRuntime) -> Result<(), Fail> {
-    let no = Prob { p: 0, q: 0 };
+    let no = NEVER;
     let one = Prob { p: 1, q: 0 };
     let more = Prob { p: 2, q: 1 };
     let less = Prob { p: 2, q: -1 };
     let all = Prob { p: LARGEST, q: 0 };
-    expect(&rt, rt.alloc(), &[], &[one, no, no, no])?;
-    expect(&rt, rt.alloc(), &[Kind::H], &[one, one, no, no])?;
+    expect(&rt, rt.alloc(), 2, &[], [one, no, no, no])?;
+    expect(&rt, rt.alloc(), 2, &[Kind::H], [one, one, no, no])?;
     let bell = [Kind::H, Kind::Cnot];
-    expect(&rt, rt.alloc(), &bell, &[one, no, no, one])?;
+    expect(&rt, rt.alloc(), 2, &bell, [one, no, no, one])?;
+    expect(&rt, rt.alloc(), 12, &bell, [one, no, no, one])?;
     let turned = [Kind::H, Kind::T, Kind::H];
-    expect(&rt, rt.alloc(), &turned, &[more, less, no, no])?;
+    expect(&rt, rt.alloc(), 3, &turned, [more, less, no, no])?;
     let moved = [Kind::H, Kind::T, Kind::H, Kind::Is];
-    expect(&rt, rt.alloc(), &moved, &[more, no, less, no])?;
-    expect(&rt, rt.alloc(), &[Kind::H; 120], &[all, no, no, no])
+    expect(&rt, rt.alloc(), 2, &moved, [more, no, less, no])?;
+    expect(&rt, rt.alloc(), 2, &[Kind::H; 120], [all, no, no, no])
+}
+
+/// Whether these are indices of this many qubits.
+fn are_below(indices: &[u64], qubits: u32) -> bool
+    requires { qubits ≤ max_qubits }
+    ensures { IsTrue result → All (λ x. x < 2 ^ qubits) indices.now }
+{
+    indices.iter().all(|x| *x < 1 << qubits)
+}
+
+/// Whether this is the text of the circuit's probabilities at these indices.
+fn expect_lines(
+    rt: &impl Abort,
+    alloc: Global,
+    qubits: u32,
+    kinds: &[Kind],
+    indices: &[u64],
+    lines: &str,
+) -> Result<(), Fail> {
+    let circuit = circuit_of(rt, alloc, qubits, kinds)?;
+    assert!(rt; circuit.qubits() <= MAX_UNCUT_QUBITS);
+    assert!(rt; circuit.weight() <= MAX_WEIGHT);
+    assert!(rt; are_below(indices, circuit.qubits()));
+    let probs = all_probabilities(alloc, &circuit)?;
+    let text = prob_lines(alloc, &circuit, indices, &probs)?;
+    assert_eq!(rt; text.as_slice(), lines.as_bytes());
+    Ok(())
+}
+
+/// A line stands for each index, in their order, also where one is asked again.
+#[test]
+fn texts(rt: HostRuntime) -> Result<(), Fail> {
+    let turned = [Kind::H, Kind::T, Kind::H];
+    let moved = [Kind::H, Kind::T, Kind::H, Kind::Is];
+    let text = "01 2 -1 2\n00 2 1 2\n00 2 1 2\n10 0 0 0\n";
+    expect_lines(&rt, rt.alloc(), 1, &turned, &[], "")?;
+    expect_lines(
+        &rt,
+        rt.alloc(),
+        1,
+        &[Kind::H],
+        &[0, 1],
+        "0 1 0 1\n1 1 0 1\n",
+    )?;
+    expect_lines(&rt, rt.alloc(), 1, &turned, &[0, 1], "0 2 1 2\n1 2 -1 2\n")?;
+    expect_lines(&rt, rt.alloc(), 2, &moved, &[2, 0, 0, 1], text)
 }

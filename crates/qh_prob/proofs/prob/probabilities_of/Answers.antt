@@ -2,7 +2,7 @@ use Rattle.std.proofs.Common.{sym, ap, subst, ◌∙◌, All}
 use Rattle.qh_gates.specs.Evolution.{uncut}
 use Rattle.qh_prob.specs.Probability.{total, IsBounded}
 use Rattle.qh_prob.proofs.TotalLemmas.{add_up, all_bounded, all_there}
-use Rattle.qh_prob.proofs.prob.all_probabilities.Goals as goal
+use Rattle.qh_prob.proofs.prob.probabilities_of.Goals as goal
 
 pub returns-clause-certain : goal.returns-clause-certain
 returns-clause-certain c =
