@@ -122,6 +122,16 @@ class Ring:
             a, b, c, d, k = (b - d) // 2, (a + c) // 2, (b + d) // 2, (c - a) // 2, k - 1
         return '%s %d %d %d %d %d' % (bits, a, b, c, d, k)
 
+    def prob_line(self, bits, z):
+        """The line of the probability (P + Q sqrt(2)) / 2^k, in the form of least k."""
+        (a, b, c, d), k = self.coefficients(z), self.weight
+        p, q = a * a + b * b + c * c + d * d, a * b + b * c + c * d - d * a
+        if p == 0:
+            return '%s 0 0 0' % bits
+        while k and p % 2 == 0 and q % 2 == 0:
+            p, q, k = p // 2, q // 2, k - 1
+        return '%s %d %d %d' % (bits, p, q, k)
+
 
 def whole_state(ring, n, ops):
     """The state after all gates, a list over all basis indices; qubit q is bit q of an index."""
@@ -169,7 +179,7 @@ def backwards(ring, ops):
     return lambda x: number(len(ops), x)
 
 
-def lines_of(n, gates, strings, part=(), p=0, prefix=None, both=False):
+def lines_of(n, gates, strings, part=(), p=0, prefix=None, both=False, prob=False):
     """The output's lines for these bitstrings; with `both` by both methods, which have to agree."""
     ops, _ = matrices(gates, part, p, prefix)
     ring = Ring(sum(TABLE[name][1] for name, _ in gates))
@@ -182,12 +192,15 @@ def lines_of(n, gates, strings, part=(), p=0, prefix=None, both=False):
         numbers = [state[x] for x in indices]
         if both:
             assert [z % ring.modulus for z in numbers] == [back(x) for x in indices], 'the methods differ'
-    return [ring.line(s, z) for s, z in zip(strings, numbers)]
+    line = ring.prob_line if prob else ring.line
+    return [line(s, z) for s, z in zip(strings, numbers)]
 
 
 def options(words):
-    """The values of the options, by their letters."""
-    return {words[i][1]: words[i + 1] for i in range(0, len(words), 2)}
+    """The values of the options, by their letters; the flag --prob by its name."""
+    flags = {word.strip('-'): True for word in words if word == '--prob'}
+    words = [word for word in words if word != '--prob']
+    return {**flags, **{words[i][1]: words[i + 1] for i in range(0, len(words), 2)}}
 
 
 def output(folder, name):
@@ -211,7 +224,7 @@ def output(folder, name):
         (n, gates), head = read_circuit(text('.circuit'), int(asked.get('d', 2 ** 32))), []
         strings = text('.bits').split()
     both = n > WHOLE or sum(TABLE[gate][1] for gate, _ in gates) - n < 12
-    return '\n'.join(head + lines_of(n, gates, strings, part, p, prefix, both)) + '\n'
+    return '\n'.join(head + lines_of(n, gates, strings, part, p, prefix, both, 'prob' in asked)) + '\n'
 
 
 def check_table():

@@ -1,48 +1,43 @@
 -- How the run of a job gives its sums, or stops.
-use Rattle.std.proofs.Common.{◌≡◌, ◌≢◌, ◌⊎◌, ℕ, ◌+◌, ◌*◌, ◌^◌, ◌<◌, ◌≤◌, min, inl, inr, true, false, Bool, List, [], length, map, Option, Some, None, Result, Ok, Err, is_some, is_none, IfSome, IsSome, IsSomeAnd, IfOk, OnOk, IfErr, All, if◌then◌else◌, refl, sym, ap, subst, ◌∙◌, arith}
-use Rattle.std.specs.Prelude.{option_map, option_and_then}
+use Rattle.std.proofs.Common.{◌≡◌, ◌≢◌, ◌⊎◌, ℕ, ◌<◌, ◌≤◌, inl, inr, true, false, Bool, List, [], length, Option, Some, None, Result, Ok, Err, is_some, is_none, IfSome, IsSome, IsSomeAnd, IfOk, OnOk, IfErr, if◌then◌else◌, refl, sym, ap, subst, ◌∙◌, arith}
+use Rattle.std.specs.Prelude.{option_map}
 use Rattle.std.specs.List.{count_by, range_with_len}
 use Rattle.std.proofs.lemmas.Bool.{false≢true}
 use Rattle.std.proofs.lemmas.Nat.{mul-le}
-use Rattle.std.proofs.lemmas.List.{length-map}
 use Rattle.std.proofs.lemmas.List.FromFn.{length-range_with_len}
 use Rattle.std.proofs.lemmas.List.Sums.{count_by-le-length}
 use Rattle.qh_ring.specs.declared.number.Omega.{Omega}
-use Rattle.qh_counts.specs.Counts.{RoseBy, Rose}
+use Rattle.qh_counts.specs.Counts.{RoseBy}
 use Rattle.qh_plan.specs.declared.verdict.Verdict.{Verdict}
 use Rattle.qh_plan.specs.declared.verdict.Verdict.TheVariants.{Sum, Over as PathOver}
 use Rattle.qh_plan.specs.Jobs.{Job, IsJob, prefixes, roots, ranges, ranges_of}
 use Rattle.qh_plan.specs.Verdicts.{total}
 use Rattle.qh_plan.proofs.PlanLemmas.{counted_job}
 use Rattle.qh_meaning.specs.Values.{range_value, run_value}
-use Rattle.qh_meaning.specs.Asked.{asked}
-use Rattle.qh_meaning.specs.Laws.{NoneOver}
 use Rattle.qh_meaning.proofs.SlotLemmas.{total_same}
-use Rattle.qh_meaning.proofs.OverLemmas.{names_least}
-use Rattle.qh_meaning.proofs.RunLemmas.{AllFit, has_cut, run_value_is}
 use Rattle.qh_disk.specs.Disk.{Face}
 use Rattle.qh_slots.specs.Stands.{Slots, slot_at, nones}
 use Rattle.qh_slots.specs.Layout.{head}
 use Rattle.qh_slots.specs.Attaching.{first_refusal, head_refusal, slots_of, slots_by}
 use Rattle.qh_slots.specs.declared.fault.AttachFault.{AttachFault}
 use Rattle.qh_slots.specs.declared.fault.AttachFault.TheVariants.{Empty}
-use Rattle.qh_record.specs.Record.{Keeping, counted, values, slots_before, slots_after, IfTold, IsEnd, Extends, IsFull, count_bare}
-use Rattle.qh_record.specs.Refusing.{RefusesJournal, RefusesOld}
+use Rattle.qh_record.specs.Record.{Keeping, counted, values, slots_before, slots_after, IsFull, count_bare}
+use Rattle.qh_record.specs.Refusing.{RefusesJournal}
 use Rattle.qh_record.specs.Keeps.{KeepsJournal, IsWhole}
 use Rattle.qh_record.proofs.StillLemmas.{value_at, no_slot, values_extend}
 use Rattle.qh_migrate.specs.Faults.{attach_of}
-use Rattle.qh_record.specs.Moments.{IsUnwritten}
 use Rattle.qh_run.specs.Ends.{answer_of, IsBounded, AcceptsOld, MayEnd}
 use Rattle.qh_run.specs.declared.ended.RunEnd.{RunEnd}
 use Rattle.qh_run.specs.declared.ended.RunEnd.TheVariants.{Sums, Over as RunOver, Disk, OldDisk, Refused as RunRefused, OldRefused, Memory as RunMemory}
 use Rattle.qh_words.specs.declared.options.Options.{Options}
-use Rattle.qh_top.specs.Jobs.{keeping}
-use Rattle.qh_top.specs.Request.{IsRun}
-use Rattle.qh_top.specs.Refusals.{JournalRefuses}
-use Rattle.qh_top.specs.Parts.{JobMayStop, StopsWith, IsPrintable}
-use Rattle.qh_top.specs.declared.stop.Stop.{Stop}
-use Rattle.qh_top.specs.declared.stop.JournalRefusal.{JournalRefusal}
-use Rattle.qh_top.specs.declared.stop.JournalRefusal.TheVariants.{OfJournal, OfOld}
+use Rattle.qh_request.specs.Jobs.{keeping}
+use Rattle.qh_request.specs.Request.{IsRun}
+use Rattle.qh_request.specs.Refusals.{JournalRefuses}
+use Rattle.qh_request.specs.Parts.{JobMayStop}
+use Rattle.qh_top.specs.Parts.{StopsWith, IsPrintable}
+use Rattle.qh_tell.specs.declared.stop.Stop.{Stop}
+use Rattle.qh_tell.specs.declared.stop.JournalRefusal.{JournalRefusal}
+use Rattle.qh_tell.specs.declared.stop.JournalRefusal.TheVariants.{OfJournal, OfOld}
 
 some_same : {X : Type 0} (o : Option X) (x y : X) → o ≡ Some x → o ≡ Some y → x ≡ y
 some_same o x y e f = cc
@@ -168,9 +163,6 @@ pub kept_run : (k l : Keeping) → k ≡ l → (j : Job) (old disk after : Face)
 kept_run k l same j old disk after Granted a v is kept e keeps whole accepted granted =
     subst (λ k. IsRun k j old disk after Granted v) same (kept_run_by k j old disk after Granted a v is kept e keeps whole accepted granted)
 
-pub not_kept : (o : Options) → o.journal ≡ None → (keeping o).kept ≡ false
-not_kept o e = ap (is_some {T = List ℕ}) e
-
 -- the options that ask for a journal
 pub kept_keeping : (o : Options) (taking : Bool) → is_some o.journal ≡ true → taking ≡ is_some o.from → record { kept = true; fresh = o.fresh; taking = taking } ≡ keeping o
 kept_keeping o taking kept taken =
@@ -178,18 +170,6 @@ kept_keeping o taking kept taken =
     ∙ ap (λ (b : Bool). let k : Keeping = record { kept = b; fresh = o.fresh; taking = is_some o.from } in k) (sym kept)
 
 -- ---- sums that can be printed
-sum_same : (s t : List Omega) → ◌≡◌ {A = Verdict} (Sum s) (Sum t) → s ≡ t
-sum_same s t e = cc
-
-pub none_over : (j : Job) (s : List Omega) → run_value j ≡ Sum s → NoneOver j
-none_over j s e = (names_least j).sum s e
-
--- sums that are the run's value are what is asked
-pub sums_are_asked : (j : Job) (s : List Omega) → IsJob j → run_value j ≡ Sum s → s ≡ map (asked j) j.bits
-sums_are_asked j s is e =
-    let fit : AllFit j = λ i k l m. none_over j s e _ (record { range = i; place = k; range_below = l; place_below = m; is = refl }) in
-    sum_same s _ (sym e ∙ run_value_is j (has_cut j is) fit)
-
 pub printable : (j : Job) (a : Option Verdict) (s : List Omega) → a ≡ Some (Sum s) → IfSome a (IsBounded j) → IsPrintable j s
 printable j a s e bounded = let b = subst (λ a. IfSome a (IsBounded j)) e bounded in record { count = b.0; within = b.1 }
 

@@ -1,12 +1,3 @@
--- The definitions that the contract of the top call cites.
-pub mod Seen
-pub mod Inputs
-pub mod Lines
-pub mod Jobs
-pub mod Answer
-pub mod Indexed
-pub mod Refusals
-pub mod Request
-pub mod Stops
+-- How a run ends for the call, and the files that words name.
 pub mod Parts
 pub mod Names

@@ -1,26 +1,29 @@
 //! The text that a request asks for.
-ghost use Rattle.std.specs.Prelude.{◌≡◌, ◌≢◌, ◌≤◌, ◌<◌, ◌++◌, ◌⊎◌, [], false, Some, None, decimal, IfOk, IfErr, OnOk, IsSomeAnd, length, map, All};
+ghost use Rattle.std.specs.Prelude.{◌≡◌, ◌≢◌, ◌≤◌, ◌<◌, ◌++◌, ◌⊎◌, [], true, false, Some, None, decimal, IfOk, IfErr, OnOk, IsSomeAnd, length, map, All};
 ghost use Rattle.qh_ring.specs.Numbers.{IsWithin};
 ghost use Rattle.qh_ring.specs.States.{at_index, listed};
-ghost use Rattle.qh_limits.specs.Limits.{max_uncut_qubits, coefficient_bits};
+ghost use Rattle.qh_limits.specs.Limits.{max_uncut_qubits, max_weight, coefficient_bits};
 ghost use Rattle.qh_gates.specs.Circuits.{total_weight};
 ghost use Rattle.qh_gates.specs.Evolution.{uncut, NeverOver};
 ghost use Rattle.qh_uncut.specs.Faults.{IsCause};
 ghost use Rattle.qh_plan.specs.Plans.{AreBits};
-ghost use Rattle.qh_top.specs.Answer.{gen_line, head_text};
-ghost use Rattle.qh_top.specs.Indexed.{IsUncutText, IsIndexedBy};
-ghost use Rattle.qh_top.specs.Request.{EndsEarly, HeardOf};
-ghost use Rattle.qh_top.specs.Stops.{status_of};
-ghost use Rattle.qh_top.specs.Parts.{UncutMayStop, AnswerMayStop, AnswerMoves};
+ghost use Rattle.qh_prob.specs.Probability.{probabilities};
+ghost use Rattle.qh_request.specs.Answer.{gen_line, head_text};
+ghost use Rattle.qh_request.specs.Indexed.{IsUncutText, IsProbText, IsWholeText, IsIndexedBy};
+ghost use Rattle.qh_request.specs.Request.{EndsEarly, HeardOf};
+ghost use Rattle.qh_tell.specs.Stops.{status_of};
+ghost use Rattle.qh_request.specs.Parts.{UncutMayStop, AnswerMayStop, AnswerMoves};
 
 use crate::cut::cut_answer;
-use crate::stop::Stop;
 use qh_disk::Disk;
 use qh_gates::Circuit;
 use qh_lease::Timer;
+use qh_limits::MAX_WEIGHT;
 use qh_plan::check_uncut;
 use qh_print::{Lines, lines_of};
+use qh_prob::{Prob, all_probabilities, prob_lines};
 use qh_ring::Omega;
+use qh_tell::{Refusal, Stop};
 use qh_text::push_word;
 use qh_uncut::{UncutFault, evolve};
 use qh_words::{GenSize, Options};
@@ -57,7 +60,7 @@ fn state_values(
 }
 
 /// The first line of a generated circuit.
-#[tactic(auto, unfolding(crate::specs::Answer::gen_line))]
+#[tactic(auto, unfolding(qh_request::specs::Answer::gen_line))]
 fn gen_line(
     alloc: Global,
     circuit: &Circuit,
@@ -117,7 +120,7 @@ pub(crate) fn state_text(
     requires never { OnOk state (NeverOver circuit.now) }
     requires cause { IfErr state (IsCause circuit.now) }
     ensures answer { IfOk result (λ text. IsUncutText generated circuit.now indices.now text.items) }
-    ensures cause { IfErr result (UncutMayStop circuit.now) }
+    ensures cause { IfErr result (UncutMayStop false circuit.now) }
 {
     let state = match state {
         Ok(state) => state,
@@ -133,22 +136,98 @@ pub(crate) fn state_text(
     with_head(alloc, generated, circuit, 0, 0, &lines)
 }
 
-/// The text of a circuit that is not cut.
-fn uncut_answer(
+/// That the weight of a circuit is at most 120, so that its probabilities can be computed.
+pub(crate) fn check_prob(circuit: &Circuit) -> Result<(), Stop>
+    ensures shallow { OnOk result (total_weight circuit.now.gates ≤ max_weight) }
+    ensures deep { IfErr result (λ stop. (max_weight < total_weight circuit.now.gates) × (stop ≡ Stop.Refused (Refusal.ProbTooDeep (total_weight circuit.now.gates)))) }
+{
+    let weight = circuit.weight();
+    if weight > MAX_WEIGHT {
+        return Err(Stop::Refused(Refusal::ProbTooDeep { weight }));
+    }
+    Ok(())
+}
+
+/// The text of a circuit's probabilities at these indices, of all its probabilities.
+pub(crate) fn prob_text(
+    alloc: Global,
+    generated: Option<GenSize>,
+    circuit: &Circuit,
+    indices: &[u64],
+    probs: Result<Vec<Prob>, AllocError>,
+) -> Result<Vec<u8>, Stop>
+    requires bits { AreBits circuit.now.qubits indices.now }
+    requires narrow { circuit.now.qubits ≤ max_uncut_qubits }
+    requires shallow { total_weight circuit.now.gates ≤ max_weight }
+    requires exact { IfOk probs (λ v. v.items ≡ probabilities circuit.now) }
+    ensures answer { IfOk result (λ text. IsProbText generated circuit.now indices.now text.items) }
+    ensures err { IfErr result (λ stop. stop ≡ Stop.Memory) }
+{
+    let Ok(probs) = probs else {
+        return Err(Stop::Memory);
+    };
+    let Ok(bytes) = prob_lines(alloc, circuit, indices, &probs) else {
+        return Err(Stop::Memory);
+    };
+    let lines = Lines::of(bytes);
+    with_head(alloc, generated, circuit, 0, 0, &lines)
+}
+
+/// The text of the probabilities of a circuit of at most 16 qubits.
+fn prob_answer(
     alloc: Global,
     generated: Option<GenSize>,
     circuit: &Circuit,
     indices: &[u64],
 ) -> Result<Vec<u8>, Stop>
-    requires { AreBits circuit.now.qubits indices.now }
+    requires bits { AreBits circuit.now.qubits indices.now }
+    requires narrow { circuit.now.qubits ≤ max_uncut_qubits }
+    ensures answer { IfOk result (λ text. IsProbText generated circuit.now indices.now text.items) }
+    ensures cause { IfErr result (UncutMayStop true circuit.now) }
+{
+    if let Err(stop) = check_prob(circuit) {
+        return Err(stop);
+    }
+    let probs = all_probabilities(alloc, circuit);
+    prob_text(alloc, generated, circuit, indices, probs)
+}
+
+/// The text of the amplitudes of a circuit of at most 16 qubits.
+fn amplitude_answer(
+    alloc: Global,
+    generated: Option<GenSize>,
+    circuit: &Circuit,
+    indices: &[u64],
+) -> Result<Vec<u8>, Stop>
+    requires bits { AreBits circuit.now.qubits indices.now }
+    requires narrow { circuit.now.qubits ≤ max_uncut_qubits }
     ensures answer { IfOk result (λ text. IsUncutText generated circuit.now indices.now text.items) }
-    ensures cause { IfErr result (UncutMayStop circuit.now) }
+    ensures cause { IfErr result (UncutMayStop false circuit.now) }
+{
+    let state = evolve(alloc, circuit);
+    state_text(alloc, generated, circuit, indices, state)
+}
+
+/// The text of a circuit that is not cut: its probabilities, or its amplitudes.
+fn uncut_answer(
+    alloc: Global,
+    prob: bool,
+    generated: Option<GenSize>,
+    circuit: &Circuit,
+    indices: &[u64],
+) -> Result<Vec<u8>, Stop>
+    requires { AreBits circuit.now.qubits indices.now }
+    ensures answer { IfOk result (λ text. IsWholeText prob generated circuit.now indices.now text.items) }
+    ensures cause { IfErr result (UncutMayStop prob circuit.now) }
 {
     if let Err(fault) = check_uncut(circuit) {
         return Err(Stop::of_plan(fault));
     }
-    let state = evolve(alloc, circuit);
-    state_text(alloc, generated, circuit, indices, state)
+    if prob {
+        prob_answer(alloc, generated, circuit, indices)
+    } else {
+        amplitude_answer(alloc, generated, circuit, indices)
+    }
 }
 
 /// The text that the options ask for of a circuit at these indices. Only a circuit that is cut calls on a disk.
@@ -171,7 +250,7 @@ pub(crate) fn answer<D: Disk, F: Disk, T: Timer>(
     ensures old_loans { F.loans old.new ≡ F.loans old.old }
 {
     match &options.part {
-        None => uncut_answer(alloc, options.generated, &circuit, &indices),
+        None => uncut_answer(alloc, options.prob, options.generated, &circuit, &indices),
         Some(part) => cut_answer(
             alloc,
             options,

@@ -9,19 +9,15 @@ mod alone;
 mod answer;
 mod call;
 mod cut;
-mod input;
-mod laws;
 mod names;
-mod say;
 mod shared;
 mod shared_answer;
 mod shared_call;
-mod stop;
 #[cfg(test)]
 mod tests;
 
 pub use alone::qsimh_alone;
-pub use laws::{bad_part_is_refused, one_answer};
 pub use names::{Names, file_names};
+pub use qh_request::{bad_part_is_refused, one_answer};
 pub use qh_words::{Text, WordsFault};
 pub use shared::{Ran, qsimh};

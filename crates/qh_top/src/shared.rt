@@ -7,13 +7,14 @@ ghost use Rattle.qh_record.specs.Record.{counted, taken_over, IfTold, Extends, I
 ghost use Rattle.qh_record.specs.Moments.{IsMade, OldIsMade, BeginsTrue, IsOldOrMade, IsOldOrGoesOn, StaysStable, IsEmptyAt, IsUnwritten, IsReadOnly};
 ghost use Rattle.qh_words.specs.declared.options.Options.{Options as OptionsValue};
 ghost use Rattle.qh_words.specs.declared.size.GenSize.{GenSize as Size};
-ghost use Rattle.qh_top.specs.Seen.{seen};
-ghost use Rattle.qh_top.specs.Jobs.{request, keeping, Asks, Takes};
-ghost use Rattle.qh_top.specs.Refusals.{Refuses, Reading, RefusesAll, SourceRises, JournalRefuses};
-ghost use Rattle.qh_top.specs.Request.{Prints, PrintsAsked, RunIsWhole, EndsWholeBy, AnyGrants, EndsEarly, Answers, FaultCame, FaultFirst};
-ghost use Rattle.qh_top.specs.declared.stop.Refusal.{Refusal as RefusalValue};
-ghost use Rattle.qh_top.specs.declared.stop.JournalRefusal.{JournalRefusal as JournalRefusalValue};
-ghost use Rattle.qh_top.specs.Stops.{MayStop, Says, Stops};
+ghost use Rattle.qh_tell.specs.Seen.{seen};
+ghost use Rattle.qh_request.specs.Jobs.{request, keeping, Asks, Takes};
+ghost use Rattle.qh_request.specs.Refusals.{Refuses, Reading, RefusesAll, SourceRises, JournalRefuses};
+ghost use Rattle.qh_request.specs.Request.{Prints, PrintsAsked, RunIsWhole, EndsWholeBy, AnyGrants, EndsEarly, Answers, FaultCame, FaultFirst};
+ghost use Rattle.qh_tell.specs.declared.stop.Refusal.{Refusal as RefusalValue};
+ghost use Rattle.qh_tell.specs.declared.stop.JournalRefusal.{JournalRefusal as JournalRefusalValue};
+ghost use Rattle.qh_request.specs.Outcomes.{MayStop, Stops};
+ghost use Rattle.qh_tell.specs.Stops.{Says};
 
 use crate::shared_call::answered_shared;
 use qh_disk::Disk;
@@ -104,6 +105,9 @@ where
     ensures stopped { result.status ≢ 0 → Stops result.status
         (MayStop (request words.now) (seen C.left C.faults circuit.old circuit.new) (seen B.left B.faults bits.old bits.new) (seen O.held O.faults out.old out.new) (D.face disk) (D.face result.disk) (F.face old.old) (F.face old.new))
         (Says (seen E.held E.faults err.old err.new)) }
+
+    // Probabilities are over nowhere.
+    ensures prob_fits { (o : OptionsValue) → request words.now ≡ Some o → o.prob ≡ true → result.status ≢ 3 }
 
     // Untouched: only a write fault leaves anything in the sink. No call is made on a disk before a job is accepted that keeps a journal.
     ensures untouched { result.status ≢ 0 → result.status ≢ 6 → out.new ≡ out.old }

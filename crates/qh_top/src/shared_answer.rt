@@ -1,24 +1,27 @@
 //! The text of a circuit, by several workers.
-ghost use Rattle.std.specs.Prelude.{◌≡◌, ◌≢◌, ◌⊎◌, [], false, Some, None, IfOk, IfErr, OnOk, IsSomeAnd};
+ghost use Rattle.std.specs.Prelude.{◌≡◌, ◌≢◌, ◌≤◌, ◌⊎◌, [], true, false, Some, None, IfOk, IfErr, OnOk, IsSomeAnd};
 ghost use Rattle.std.specs.Arc.{arc_value};
+ghost use Rattle.qh_limits.specs.Limits.{max_uncut_qubits};
 ghost use Rattle.qh_plan.specs.Plans.{AreBits, IsPlanned};
 ghost use Rattle.qh_plan.specs.declared.verdict.Verdict.TheVariants.{Sum};
 ghost use Rattle.qh_words.specs.Request.{HasWorkers};
-ghost use Rattle.qh_top.specs.Jobs.{keeping};
-ghost use Rattle.qh_top.specs.Indexed.{IsCutText, IsIndexedBy, IsUncutText};
-ghost use Rattle.qh_top.specs.Request.{EndsEarly, IsRun, AnyGrants};
-ghost use Rattle.qh_top.specs.Stops.{status_of};
-ghost use Rattle.qh_top.specs.Parts.{UncutMayStop, JobMayStop, CutMayStop, AnswerMayStop, JobMoves, PlannedMoves, AnswerMoves, IsPrintable};
+ghost use Rattle.qh_request.specs.Jobs.{keeping};
+ghost use Rattle.qh_request.specs.Indexed.{IsCutText, IsIndexedBy, IsUncutText, IsProbText, IsWholeText};
+ghost use Rattle.qh_request.specs.Request.{EndsEarly, IsRun, AnyGrants};
+ghost use Rattle.qh_tell.specs.Stops.{status_of};
+ghost use Rattle.qh_request.specs.Parts.{UncutMayStop, JobMayStop, CutMayStop, AnswerMayStop, JobMoves, PlannedMoves, AnswerMoves};
+ghost use Rattle.qh_top.specs.Parts.{IsPrintable};
 
-use crate::answer::state_text;
+use crate::answer::{check_prob, prob_text, state_text};
 use crate::cut::{JobEnd, planned, sums_into, sums_text};
-use crate::stop::Stop;
 use qh_disk::Disk;
 use qh_gates::Circuit;
 use qh_lease::Timer;
 use qh_plan::{Job, check_uncut};
+use qh_prob::chunk_probabilities;
 use qh_ring::Omega;
 use qh_run_shared::{run_kept_shared, run_unkept_shared};
+use qh_tell::Stop;
 use qh_uncut::evolve_chunks;
 use qh_words::{GenSize, Options};
 use qh_workers::WorkerGate;
@@ -154,23 +157,64 @@ where
     sums_text(alloc, options.generated, &job, &sums)
 }
 
-/// The text of a circuit that is not cut, which several threads evolve.
-fn uncut_answer_shared<R: Threads + Sync>(
+/// The text of the probabilities of a circuit of at most 16 qubits, which several threads evolve.
+fn prob_answer_shared<R: Threads + Sync>(
     rt: &R,
     alloc: Global,
     generated: Option<GenSize>,
     circuit: &Circuit,
     indices: &[u64],
 ) -> Result<Vec<u8>, Stop>
-    requires { AreBits circuit.now.qubits indices.now }
+    requires bits { AreBits circuit.now.qubits indices.now }
+    requires narrow { circuit.now.qubits ≤ max_uncut_qubits }
+    ensures answer { IfOk result (λ text. IsProbText generated circuit.now indices.now text.items) }
+    ensures cause { IfErr result (UncutMayStop true circuit.now) }
+{
+    if let Err(stop) = check_prob(circuit) {
+        return Err(stop);
+    }
+    let probs = chunk_probabilities(rt, alloc, circuit);
+    prob_text(alloc, generated, circuit, indices, probs)
+}
+
+/// The text of the amplitudes of a circuit of at most 16 qubits, which several threads evolve.
+fn amplitude_answer_shared<R: Threads + Sync>(
+    rt: &R,
+    alloc: Global,
+    generated: Option<GenSize>,
+    circuit: &Circuit,
+    indices: &[u64],
+) -> Result<Vec<u8>, Stop>
+    requires bits { AreBits circuit.now.qubits indices.now }
+    requires narrow { circuit.now.qubits ≤ max_uncut_qubits }
     ensures answer { IfOk result (λ text. IsUncutText generated circuit.now indices.now text.items) }
-    ensures cause { IfErr result (UncutMayStop circuit.now) }
+    ensures cause { IfErr result (UncutMayStop false circuit.now) }
+{
+    let state = evolve_chunks(rt, alloc, circuit);
+    state_text(alloc, generated, circuit, indices, state)
+}
+
+/// The text of a circuit that is not cut: its probabilities, or its amplitudes.
+fn uncut_answer_shared<R: Threads + Sync>(
+    rt: &R,
+    alloc: Global,
+    prob: bool,
+    generated: Option<GenSize>,
+    circuit: &Circuit,
+    indices: &[u64],
+) -> Result<Vec<u8>, Stop>
+    requires { AreBits circuit.now.qubits indices.now }
+    ensures answer { IfOk result (λ text. IsWholeText prob generated circuit.now indices.now text.items) }
+    ensures cause { IfErr result (UncutMayStop prob circuit.now) }
 {
     if let Err(fault) = check_uncut(circuit) {
         return Err(Stop::of_plan(fault));
     }
-    let state = evolve_chunks(rt, alloc, circuit);
-    state_text(alloc, generated, circuit, indices, state)
+    if prob {
+        prob_answer_shared(rt, alloc, generated, circuit, indices)
+    } else {
+        amplitude_answer_shared(rt, alloc, generated, circuit, indices)
+    }
 }
 
 /// The text that the options ask for of a circuit at these indices. Only a circuit that is cut calls on a disk.
@@ -202,7 +246,14 @@ where
     ensures old_loans { F.loans old.new ≡ F.loans old.old }
 {
     match &options.part {
-        None => uncut_answer_shared(rt, alloc, options.generated, &circuit, &indices),
+        None => uncut_answer_shared(
+            rt,
+            alloc,
+            options.prob,
+            options.generated,
+            &circuit,
+            &indices,
+        ),
         Some(part) => cut_answer_shared(
             rt,
             alloc,

@@ -27,9 +27,19 @@ fn check<R: Abort + AllocGlobal + Threads + Wait + Sync, W: WorkerGate + Sync>(
     row: &Row,
     gate: &W,
 ) -> Result<(), Fail> {
+    check_text(rt, row, row.circuit, gate)
+}
+
+/// The same over this circuit text in place of the row's.
+pub(super) fn check_text<R: Abort + AllocGlobal + Threads + Wait + Sync, W: WorkerGate + Sync>(
+    rt: &R,
+    row: &Row,
+    circuit: &[u8],
+    gate: &W,
+) -> Result<(), Fail> {
     let alloc = rt.alloc();
     let words = strings(alloc, row.words)?;
-    let mut circuit = MemSource::new(alloc, row.circuit, 3, row.fails[0])?;
+    let mut circuit = MemSource::new(alloc, circuit, 3, row.fails[0])?;
     let mut bits = MemSource::new(alloc, row.bits, 2, row.fails[1])?;
     let mut out = MemSink::new(alloc, 1000, 10, row.fails[2])?;
     let mut err = MemSink::new(alloc, 1000, 7, row.fails[3])?;

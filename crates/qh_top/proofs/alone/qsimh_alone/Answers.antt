@@ -1,7 +1,9 @@
+use Rattle.std.proofs.Common.{map, string_bytes}
 use Rattle.qh_counts.specs.Counts.{RoseBy}
-use Rattle.qh_top.specs.Seen.{seen}
-use Rattle.qh_top.proofs.Journals.{keeps_asked, stays_stable, unwritten_refused, old_is_read, disk_runs, old_runs, reached_job}
-use Rattle.qh_top.proofs.Ends.{whole_run, whole_asked, exact_asked, unwritten_by, usage_answer, only_usage, refused_asked, words_refused, journal_refused, completes}
+use Rattle.qh_words.proofs.Requests.{prob_uncut}
+use Rattle.qh_tell.specs.Seen.{seen}
+use Rattle.qh_request.proofs.Journals.{keeps_asked, stays_stable, unwritten_refused, old_is_read, disk_runs, old_runs, reached_job}
+use Rattle.qh_request.proofs.Ends.{whole_run, whole_asked, exact_asked, unwritten_by, usage_answer, only_usage, refused_asked, words_refused, never_over_asked, journal_refused, completes}
 use Rattle.qh_top.proofs.alone.qsimh_alone.Goals as goal
 
 pub returns-clause-journal : goal.returns-clause-journal
@@ -86,6 +88,13 @@ returns-clause-refused_by_words g c =
     let bits = seen g.B.Source.left g.B.Source.faults c.args.bits.now c.answered.new.bits in
     let out = seen g.O.Sink.held g.O.Sink.faults c.args.out.now c.answered.new.out in
     words_refused _ circuit bits out (g.D.Disk.face c.args.disk.now) (g.D.Disk.face c.answered.new.disk) (g.F.Disk.face c.args.old.now) (g.F.Disk.face c.answered.new.old) (λ n. RoseBy n (g.T.Timer.granted_count c.args.timer.now) (g.T.Timer.granted_count c.answered.new.timer)) _ _ c.answered.ensures.printed c.answered.ensures.stopped c.answered.ensures.ended
+
+pub returns-clause-prob_fits : goal.returns-clause-prob_fits
+returns-clause-prob_fits g c =
+    let circuit = seen g.C.Source.left g.C.Source.faults c.args.circuit.now c.answered.new.circuit in
+    let bits = seen g.B.Source.left g.B.Source.faults c.args.bits.now c.answered.new.bits in
+    let out = seen g.O.Sink.held g.O.Sink.faults c.args.out.now c.answered.new.out in
+    never_over_asked _ circuit bits out (g.D.Disk.face c.args.disk.now) (g.D.Disk.face c.answered.new.disk) (g.F.Disk.face c.args.old.now) (g.F.Disk.face c.answered.new.old) (λ n. RoseBy n (g.T.Timer.granted_count c.args.timer.now) (g.T.Timer.granted_count c.answered.new.timer)) _ _ c.answered.ensures.printed c.answered.ensures.stopped c.answered.ensures.ended (prob_uncut (map string_bytes c.args.words.now))
 
 pub returns-clause-journal_refused : goal.returns-clause-journal_refused
 returns-clause-journal_refused g c =

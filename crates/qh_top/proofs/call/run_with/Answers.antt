@@ -1,7 +1,7 @@
 use Rattle.std.proofs.Common.{ℕ, List, length, take, ◌<◌, refl, subst}
 use Rattle.std.specs.Io.KnownBytes.{Appends}
-use Rattle.qh_top.proofs.Causes.{answer_cause}
-use Rattle.qh_top.proofs.Runs.{answered_prints, breaks_off, written, broken, stopped_ends}
+use Rattle.qh_request.proofs.Causes.{answer_cause}
+use Rattle.qh_request.proofs.Runs.{answered_prints, breaks_off, written, broken, stopped_ends}
 use Rattle.qh_top.proofs.call.run_with.Goals as goal
 
 pub returns-in-Err-answer-clause-cause : goal.returns-in-Err-answer-clause-cause

@@ -1,7 +1,7 @@
 use Rattle.std.proofs.Common.{refl, sym, ap, subst, ◌∙◌}
 use Rattle.qh_plan.specs.declared.verdict.Verdict.TheVariants.{Sum, Over}
 use Rattle.qh_run.specs.Ends.{answer_of}
-use Rattle.qh_top.specs.Jobs.{keeping}
+use Rattle.qh_request.specs.Jobs.{keeping}
 use Rattle.qh_top.proofs.Sums.{on_ok, err_of, rose_by_fewer, unkept_run, kept_run, printable, unkept_by, kept_keeping, kept_stop}
 use Rattle.qh_top.proofs.cut.run_job.Goals as goal
 

@@ -1,7 +1,7 @@
 use Rattle.std.proofs.Common.{refl, sym, ap, subst, ◌∙◌}
 use Rattle.qh_plan.specs.declared.verdict.Verdict.TheVariants.{Sum, Over}
 use Rattle.qh_run.specs.Ends.{answer_of}
-use Rattle.qh_top.specs.Jobs.{keeping}
+use Rattle.qh_request.specs.Jobs.{keeping}
 use Rattle.qh_top.proofs.Sums.{any_granted, on_ok, err_of, unkept_run, kept_run, printable, unkept_by, kept_keeping, kept_stop}
 use Rattle.qh_top.proofs.shared_answer.run_job_shared.Goals as goal
 

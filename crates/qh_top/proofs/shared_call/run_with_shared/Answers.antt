@@ -1,8 +1,8 @@
 use Rattle.std.proofs.Common.{ℕ, List, length, take, ◌<◌, refl, subst}
 use Rattle.std.specs.Io.KnownBytes.{Appends}
-use Rattle.qh_top.specs.Request.{AnyGrants}
-use Rattle.qh_top.proofs.Causes.{answer_cause}
-use Rattle.qh_top.proofs.Runs.{answered_prints, moves_or_stays, breaks_off, written, broken, stopped_ends}
+use Rattle.qh_request.specs.Request.{AnyGrants}
+use Rattle.qh_request.proofs.Causes.{answer_cause}
+use Rattle.qh_request.proofs.Runs.{answered_prints, moves_or_stays, breaks_off, written, broken, stopped_ends}
 use Rattle.qh_top.proofs.shared_call.run_with_shared.Goals as goal
 
 pub returns-in-Err-answer_shared-clause-cause : goal.returns-in-Err-answer_shared-clause-cause

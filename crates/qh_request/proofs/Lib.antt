@@ -1,0 +1,11 @@
+-- Lemmas: what causes exclude and give, and the strings of a text.
+pub mod Asked
+pub mod Words
+pub mod Strings
+pub mod Causes
+pub mod Inputs
+pub mod Journals
+pub mod Ends
+pub mod Runs
+mod Unique
+mod FirstIndices

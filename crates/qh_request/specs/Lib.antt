@@ -1,0 +1,10 @@
+-- The definitions that the contract of the top call cites.
+pub mod Inputs
+pub mod Lines
+pub mod Jobs
+pub mod Answer
+pub mod Indexed
+pub mod Refusals
+pub mod Request
+pub mod Outcomes
+pub mod Parts

@@ -1,0 +1,2 @@
+-- How what a sink was told adds up.
+pub mod Saying

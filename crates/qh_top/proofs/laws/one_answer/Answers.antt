@@ -1,5 +1,0 @@
-use Rattle.qh_top.proofs.Unique.{one_text}
-use Rattle.qh_top.proofs.laws.one_answer.Goals as goal
-
-pub returns : goal.returns
-returns g c = λ o v ss s t told d e. one_text o.part o _ v ss s t told d e
