@@ -23,7 +23,7 @@ use qh_io::{Sink, Source};
 use qh_lease::Timer;
 use std::alloc::Global;
 
-/// Takes a circuit and bitstrings as the words ask, and writes the amplitude of each: uncut, or cut with all ranges in order, and then over the journal on
+/// Takes a circuit and bitstrings as the words ask, and writes the amplitude of each, or with `--prob` its probability: uncut, or cut with all ranges in order, and then over the journal on
 /// `disk` where the words ask for one.
 ///
 /// A circuit that is generated asks nothing of the sources. `old` is the journal of the first format that an empty journal takes over with `--from`; it is

@@ -1,4 +1,4 @@
-//! The top call: takes the options of a command line, a circuit and bitstrings, and writes exactly the amplitudes asked for.
+//! The top call: takes the options of a command line, a circuit and bitstrings, and writes exactly the amplitudes or probabilities asked for.
 //!
 //! It costs what the evolution costs: uncut one pass over 2^n numbers of 64 bytes for each gate, cut one pass over a half for
 //! each path and gate. It makes the whole output before it writes any. It opens no file itself: sources and sinks are handed
