@@ -5,8 +5,9 @@ set -u -o pipefail
 unset CDPATH
 export LC_ALL=C
 
-# The program as the toolchain's gate built it; the variable lets a check be tried on another one.
+# The programs as the toolchain's gate built them; the variables let a check be tried on other ones.
 program=${QSIMH_PROGRAM:-$PWD/crates/qsimh_amplitudes/out/qsimh_amplitudes}
+merge=${QSIMH_MERGE:-$PWD/crates/qsimh_merge/out/qsimh_merge}
 check=${0##*/}
 failed=0
 work=$(mktemp -d) || exit 1

@@ -24,9 +24,10 @@ use Rattle.qh_request.specs.Inputs.{IsCircuitFile, IsBitsFile, IsInput, HasInput
 use Rattle.qh_request.specs.Jobs.{Asks, Takes, keeping, job_strings}
 use Rattle.qh_request.specs.Refusals.{RefusesBy, Refuses, Reading, JournalRefuses}
 use Rattle.qh_request.specs.Request.{RunIsWhole, EndsWhole, PrintsAsked}
-use Rattle.qh_tell.specs.Stops.{status_of, MayStopBy, MayStop, Stops}
+use Rattle.qh_tell.specs.Stops.{status_of}
+use Rattle.qh_request.specs.Outcomes.{MayStopBy, MayStop, Stops}
 use Rattle.qh_tell.specs.declared.stop.Refusal.{Refusal}
-use Rattle.qh_tell.specs.declared.stop.Refusal.TheVariants.{CircuitTooLong, CircuitLine, BitsTooLong, BitsLine, Plan}
+use Rattle.qh_tell.specs.declared.stop.Refusal.TheVariants.{CircuitTooLong, CircuitLine, BitsTooLong, BitsLine, Plan, ProbTooDeep}
 use Rattle.qh_tell.specs.declared.stop.Input.TheVariants.{OfCircuit, OfBits}
 use Rattle.qh_tell.specs.declared.stop.JournalRefusal.{JournalRefusal}
 use Rattle.qh_tell.specs.declared.stop.JournalRefusal.TheVariants.{OfJournal, OfOld}
@@ -77,6 +78,7 @@ refuses_told None o (CircuitLine line why) circuit bits h = h
 refuses_told None o BitsTooLong circuit bits h = h
 refuses_told None o (BitsLine line why) circuit bits h = h
 refuses_told None o (Plan fault) circuit bits h = h
+refuses_told None o (ProbTooDeep weight) circuit bits h = h
 refuses_told (Some size) o r circuit bits h = h
 
 -- ---- the journal, where no old one is taken over

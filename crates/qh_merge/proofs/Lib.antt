@@ -1,0 +1,2 @@
+-- Lemmas on how a merge ends.
+pub mod EndLemmas

@@ -1,0 +1,2 @@
+-- What the program that merges journals promises.
+pub mod Ends
