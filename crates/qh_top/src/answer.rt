@@ -209,7 +209,7 @@ fn amplitude_answer(
 }
 
 /// The text of a circuit that is not cut: its probabilities, or its amplitudes.
-fn uncut_answer(
+pub(crate) fn uncut_answer(
     alloc: Global,
     prob: bool,
     generated: Option<GenSize>,

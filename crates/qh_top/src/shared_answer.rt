@@ -12,7 +12,7 @@ ghost use Rattle.qh_tell.specs.Stops.{status_of};
 ghost use Rattle.qh_request.specs.Parts.{UncutMayStop, JobMayStop, CutMayStop, AnswerMayStop, JobMoves, PlannedMoves, AnswerMoves};
 ghost use Rattle.qh_top.specs.Parts.{IsPrintable};
 
-use crate::answer::{check_prob, prob_text, state_text};
+use crate::answer::{check_prob, prob_text, state_text, uncut_answer};
 use crate::cut::{JobEnd, planned, sums_into, sums_text};
 use qh_disk::Disk;
 use qh_gates::Circuit;
@@ -217,7 +217,8 @@ fn uncut_answer_shared<R: Threads + Sync>(
     }
 }
 
-/// The text that the options ask for of a circuit at these indices. Only a circuit that is cut calls on a disk.
+/// The text that the options ask for of a circuit at these indices. Only a circuit that is cut calls on a disk, and only
+/// several workers evolve by threads.
 pub(crate) fn answer_shared<R, D, F, T, W>(
     rt: &R,
     alloc: Global,
@@ -246,6 +247,13 @@ where
     ensures old_loans { F.loans old.new ≡ F.loans old.old }
 {
     match &options.part {
+        None if options.workers == 1 => uncut_answer(
+            alloc,
+            options.prob,
+            options.generated,
+            &circuit,
+            &indices,
+        ),
         None => uncut_answer_shared(
             rt,
             alloc,
