@@ -15,7 +15,7 @@ returns-then-not-say g c =
 pub returns : goal.returns
 returns g c =
     let named = subst (Appends (g.E.Sink.held c.args.err.now) (g.E.Sink.held c.say.new.err)) (c.as_bytes-bytes.ensures.value ∙ c.fault_name-name.ensures)
-        (c.say.ensures.whole c.if-not-say.false) in
+    (c.say.ensures.whole c.if-not-say.false) in
     let numbered = subst (Says _) (ap (λ o. number_word o ++ codes "\n") c.in-Some.ensures) c.say_number.ensures in
     subst (Says _) (sym (append_assoc (fault_name c.args.fault) (number_word (fault_number c.args.fault)) (codes "\n")))
     (says_append _ _ _ _ _ _ _ _ c.say.ensures.says.later named numbered)
