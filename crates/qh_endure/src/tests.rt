@@ -248,10 +248,10 @@ fn one_of_two_ranges(rt: HostRuntime) -> Result<(), Fail> {
     let first = run_rounds(&rt, &TWO, &[fault])?;
     assert_eq!(rt; (first.status, first.out.bytes()), (5, b"".as_slice()));
     let gates = (
-        first.disk.bytes().get(FIRST_GATE),
-        first.disk.bytes().get(SECOND_GATE),
+        first.disk.bytes().get(FIRST_GATE).copied(),
+        first.disk.bytes().get(SECOND_GATE).copied(),
     );
-    assert_eq!(rt; gates, (Some(&0xa5), Some(&0)));
+    assert_eq!(rt; gates, (Some(0xa5), Some(0)));
     let both = run_rounds(&rt, &TWO, &[fault, CALM])?;
     assert_eq!(rt; (both.status, both.out.bytes()), (0, TWO_TEXT));
     Ok(())
