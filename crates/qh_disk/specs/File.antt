@@ -1,10 +1,11 @@
 -- A disk over a file, of whose content nothing is known.
-use Rattle.std.specs.Prelude.{ℕ, Bool, None}
+use Rattle.std.specs.Prelude.{ℕ, Bool, List, Option, None}
 use Rattle.qh_disk.specs.Disk.{Face}
 
--- whether it has a path, and its count of faults
+-- the path that names it, if there is one, whether it may be changed, and its count of faults
 pub record FileFacts : Type 0 where
-  pub named : Bool
+  pub path : Option (List ℕ)
+  pub changes : Bool
   pub faults : ℕ
 
 -- it tells no content and no images

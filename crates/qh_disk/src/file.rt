@@ -1,6 +1,7 @@
 //! A disk over a file of the system.
-ghost use Rattle.std.specs.Prelude.{◌≡◌, ◌≤◌, ◌+◌, ◌↔◌, [], length, take, drop, true, false, None, IfOk, OnOk, OnErr, IfErr, IsErr};
-ghost use Rattle.std.specs.Option.{is_some};
+ghost use Rattle.std.specs.Prelude.{◌≡◌, ◌≤◌, ◌+◌, ◌↔◌, [], length, take, drop, true, false, None, IsNone, IfOk, OnOk, OnErr, IfErr, IsErr};
+ghost use Rattle.std.specs.Option.{is_some, option_map};
+ghost use Rattle.std.specs.String.{string_bytes};
 ghost use Rattle.std.proofs.Common.{rules};
 ghost use Rattle.qh_counts.specs.Counts.{raised};
 ghost use Rattle.qh_disk.specs.Disk.{Reads, Becomes, overwritten, resized, Torn, Stretched, Calls, Unchanged, Shrinks, Turns, IsSafe};
@@ -30,12 +31,13 @@ pub struct FileDisk<'r, R: Files<File = File> + Sync> {
 
 impl<'r, R: Files<File = File> + Sync> Model for FileDisk<'r, R> {
     ghost use Rattle.std.specs.Prelude.{◌≡◌, false, None};
-    ghost use Rattle.std.specs.Option.{is_some};
+    ghost use Rattle.std.specs.Option.{is_some, option_map};
+    ghost use Rattle.std.specs.String.{string_bytes};
     ghost use Rattle.qh_disk.specs.File.{FileFacts};
 
     ghost Value = { FileFacts };
 
-    ghost view = { λ d. record { named = is_some d.path; faults = d.faults } };
+    ghost view = { λ d. record { path = option_map string_bytes d.path; changes = d.changes; faults = d.faults } };
 
     ghost invariant = { λ d. is_some d.path ≡ false → is_some d.file ≡ false };
 }
@@ -44,7 +46,7 @@ impl<'r, R: Files<File = File> + Sync> FileDisk<'r, R> {
     /// A disk over the file at this path, which no call has reached yet. A file that is missing is
     /// made.
     pub fn new(rt: &'r R, path: Option<String>) -> FileDisk<'r, R>
-        ensures { result ≡ record { named = is_some path; faults = 0 } }
+        ensures { result ≡ record { path = option_map string_bytes path; changes = true; faults = 0 } }
     {
         FileDisk {
             rt,
@@ -58,7 +60,7 @@ impl<'r, R: Files<File = File> + Sync> FileDisk<'r, R> {
     /// As `new`, but the file is opened for reading alone: where it is missing it stays so, and
     /// each call on it fails, as does each call that would change a file.
     pub fn read_only(rt: &'r R, path: Option<String>) -> FileDisk<'r, R>
-        ensures { result ≡ record { named = is_some path; faults = 0 } }
+        ensures { result ≡ record { path = option_map string_bytes path; changes = false; faults = 0 } }
     {
         FileDisk {
             rt,
@@ -82,7 +84,7 @@ impl<'r, R: Files<File = File> + Sync> Disk for FileDisk<'r, R> {
         ensures unchanged { Unchanged (face_of self.old) (face_of self.new) }
         ensures call { Calls result (face_of self.old) (face_of self.new) }
 
-        ensures nameless { self.old.named ≡ false → IsErr result }
+        ensures nameless { IsNone self.old.path → IsErr result }
         ensures ok { OnOk result (self.new ≡ self.old) }
         ensures err { OnErr result (self.new ≡ record self.old { faults = raised self.old.faults }) }
     {
@@ -103,7 +105,7 @@ impl<'r, R: Files<File = File> + Sync> Disk for FileDisk<'r, R> {
         ensures unchanged { Unchanged (face_of self.old) (face_of self.new) }
         ensures call { Calls result (face_of self.old) (face_of self.new) }
 
-        ensures nameless { self.old.named ≡ false → IsErr result }
+        ensures nameless { IsNone self.old.path → IsErr result }
         ensures ok { OnOk result (self.new ≡ self.old) }
         ensures err { OnErr result (self.new ≡ record self.old { faults = raised self.old.faults }) }
     {
@@ -124,10 +126,14 @@ impl<'r, R: Files<File = File> + Sync> Disk for FileDisk<'r, R> {
         ensures torn { Turns (Torn at (length bytes.now)) (face_of self.old) (face_of self.new) }
         ensures call { Calls result (face_of self.old) (face_of self.new) }
 
-        ensures nameless { self.old.named ≡ false → IsErr result }
+        ensures nameless { IsNone self.old.path → IsErr result }
+        ensures reading { self.old.changes ≡ false → IsErr result }
         ensures ok { OnOk result (self.new ≡ self.old) }
         ensures err { OnErr result (self.new ≡ record self.old { faults = raised self.old.faults }) }
     {
+        if !self.changes {
+            return Err(refused(&mut self.faults));
+        }
         reach(
             self.rt,
             &self.path,
@@ -144,10 +150,14 @@ impl<'r, R: Files<File = File> + Sync> Disk for FileDisk<'r, R> {
         ensures stretched { Turns (Stretched length) (face_of self.old) (face_of self.new) }
         ensures call { Calls result (face_of self.old) (face_of self.new) }
 
-        ensures nameless { self.old.named ≡ false → IsErr result }
+        ensures nameless { IsNone self.old.path → IsErr result }
+        ensures reading { self.old.changes ≡ false → IsErr result }
         ensures ok { OnOk result (self.new ≡ self.old) }
         ensures err { OnErr result (self.new ≡ record self.old { faults = raised self.old.faults }) }
     {
+        if !self.changes {
+            return Err(refused(&mut self.faults));
+        }
         reach(
             self.rt,
             &self.path,
@@ -165,7 +175,7 @@ impl<'r, R: Files<File = File> + Sync> Disk for FileDisk<'r, R> {
         ensures loses_none { OnErr result (Unchanged (face_of self.old) (face_of self.new)) }
         ensures call { Calls result (face_of self.old) (face_of self.new) }
 
-        ensures nameless { self.old.named ≡ false → IsErr result }
+        ensures nameless { IsNone self.old.path → IsErr result }
         ensures ok { OnOk result (self.new ≡ self.old) }
         ensures err { OnErr result (self.new ≡ record self.old { faults = raised self.old.faults }) }
     {
@@ -179,6 +189,15 @@ impl<'r, R: Files<File = File> + Sync> Disk for FileDisk<'r, R> {
         let answer = self.file.as_ref().unwrap().sync_all();
         counted(&mut self.faults, answer)
     }
+}
+
+// A call that fails before the system is asked.
+fn refused(faults: &mut u64) -> Failed
+    ensures raised { faults.new ≡ raised faults.old }
+    ensures count { result.faults ≡ faults.new }
+{
+    raise(faults);
+    Failed { faults: *faults }
 }
 
 // Opens the file at its first use.
@@ -236,9 +255,6 @@ fn counted<T: Drop>(faults: &mut u64, answer: io::Result<T>) -> Result<T, Failed
 {
     match answer {
         Ok(value) => Ok(value),
-        Err(_) => {
-            raise(faults);
-            Err(Failed { faults: *faults })
-        }
+        Err(_) => Err(refused(faults)),
     }
 }

@@ -1,6 +1,6 @@
 //! The files that the words of the command line name, as sources, a sink and disks, and the seconds of their lease.
-ghost use Rattle.std.specs.Prelude.{◌≡◌, IfOk, map};
-ghost use Rattle.std.specs.Option.{is_some, option_and_then};
+ghost use Rattle.std.specs.Prelude.{◌≡◌, false, IfOk, map};
+ghost use Rattle.std.specs.Option.{option_and_then};
 ghost use Rattle.std.specs.String.{string_bytes};
 ghost use Rattle.qh_words.specs.Request.{options_of};
 
@@ -48,7 +48,7 @@ fn names_of(alloc: Global, words: &[String]) -> Result<Names, AllocError>
 }
 
 /// The adapters for these words: each has the path that its option gives, and none where the option is absent or the
-/// words are no request. It opens no file. An Err is want of memory.
+/// words are no request. The old journal is for reading alone. It opens no file. An Err is want of memory.
 pub fn named_files<'r, R: Files<File = File> + Print + Sync>(
     rt: &'r R,
     alloc: Global,
@@ -57,8 +57,9 @@ pub fn named_files<'r, R: Files<File = File> + Print + Sync>(
     ensures circuit { IfOk result (λ files. files.circuit.path ≡ option_and_then (λ o. o.circuit) (options_of (map string_bytes words.now))) }
     ensures bits { IfOk result (λ files. files.bits.path ≡ option_and_then (λ o. o.bits) (options_of (map string_bytes words.now))) }
     ensures out { IfOk result (λ files. files.out.path ≡ option_and_then (λ o. o.out) (options_of (map string_bytes words.now))) }
-    ensures journal { IfOk result (λ files. files.journal.named ≡ is_some (option_and_then (λ o. o.journal) (options_of (map string_bytes words.now)))) }
-    ensures old { IfOk result (λ files. files.old.named ≡ is_some (option_and_then (λ o. o.from) (options_of (map string_bytes words.now)))) }
+    ensures journal { IfOk result (λ files. files.journal.path ≡ option_and_then (λ o. o.journal) (options_of (map string_bytes words.now))) }
+    ensures old { IfOk result (λ files. files.old.path ≡ option_and_then (λ o. o.from) (options_of (map string_bytes words.now))) }
+    ensures old_is_read { IfOk result (λ files. files.old.changes ≡ false) }
     ensures lease { IfOk result (λ files. files.lease ≡ option_and_then (λ o. o.lease) (options_of (map string_bytes words.now))) }
 {
     let names = names_of(alloc, words)?;
