@@ -18,8 +18,8 @@ use std::alloc::{AllocError, Global};
 use std::marker::Model;
 use std::simd::{i32x8, i64x8};
 
-/// The state of at most 20 qubits, each coefficient's magnitude below 2^30. Qubit q is bit q of an index. Contracts see the
-/// number of qubits and the list of numbers.
+/// The state of at most 20 qubits, each coefficient's magnitude below 2^30. Qubit q is bit q of an index. Contracts see
+/// the number of qubits and the list of numbers.
 #[derive(Drop)]
 pub struct Columns32 {
     qubits: u32,
@@ -57,8 +57,8 @@ impl Columns32 {
         })
     }
 
-    /// The number 0 at each index of 1 to 20 qubits. It takes as much memory, and writes none of it until numbers are copied
-    /// onto it.
+    /// The number 0 at each index of 1 to 20 qubits. It takes as much memory, and writes none of it until numbers are
+    /// copied onto it.
     pub fn zeros(alloc: Global, qubits: u32) -> Result<Columns32, AllocError>
         requires some { 1 ≤ qubits }
         requires few { qubits ≤ max_part_qubits }
@@ -99,8 +99,8 @@ impl Columns32 {
         }
     }
 
-    /// Applies the matrix to the distinct qubits `q0` and `q1`. Each row of the matrix has at most one entry other than Zero,
-    /// so that no coefficient's magnitude grows: it is never Wide.
+    /// Applies the matrix to the distinct qubits `q0` and `q1`. Each row of the matrix has at most one entry other than
+    /// Zero, so that no coefficient's magnitude grows: it is never Wide.
     pub fn apply2(&mut self, m: &Mat4, q0: u32, q1: u32) -> Result<(), Wide>
         requires first { q0 < self.old.qubits }
         requires second { q1 < self.old.qubits }

@@ -1,4 +1,5 @@
-//! Drawn circuits at each width beside the wide numbers of qh_kernel, the edges of the lanes, and the steps to wider ones.
+//! Drawn circuits at each width beside the wide numbers of qh_kernel, the edges of the lanes, and the steps to wider
+//! ones.
 ghost use Rattle.std.specs.Prelude.{◌≤◌, ◌↔◌, ◌≡◌, ◌^◌, All, length, IsTrue};
 ghost use Rattle.qh_limits.specs.Limits.{coefficient_bits};
 ghost use Rattle.qh_ring.specs.Numbers.{IsWithin};
@@ -383,8 +384,8 @@ fn run_all<C: Width>(rt: &impl Abort, alloc: Global) -> Result<(), Fail> {
     Ok(())
 }
 
-/// The first of many Hadamard gates on one qubit of the ground state for which the columns are too narrow. Before it both
-/// numbers of this qubit are `most`.
+/// The first of many Hadamard gates on one qubit of the ground state for which the columns are too narrow. Before it
+/// both numbers of this qubit are `most`.
 fn first_wide<C: Width>(rt: &impl Abort, mut columns: C, q: u32, most: i128) -> u32 {
     assert!(rt; q < 6);
     let whole = Omega {
