@@ -7,10 +7,10 @@ ghost use Rattle.qh_ring.specs.States.{at_index, listed, ground};
 ghost use Rattle.qh_kernel.specs.Rows.{are_single};
 
 use crate::form::Form;
-use crate::numbers::{answer_of, number_of, wide_room};
+use crate::numbers::{answer_of, number_of};
+use crate::places::Places;
 use crate::turns::{turn1, turn2};
 use qh_kernel::Over;
-use qh_narrow::Columns;
 use qh_ring::{Mat2, Mat4, Omega};
 use qh_steps::Steps;
 use std::alloc::{AllocError, Global};
@@ -23,8 +23,7 @@ use std::sync::ledger::Ledger;
 pub struct Half {
     qubits: u32,
     form: Form,
-    columns: Columns,
-    wide: Vec<Omega>,
+    places: Places,
 }
 
 impl Model for Half {
@@ -33,27 +32,26 @@ impl Model for Half {
 
     ghost Value = { Half };
 
-    ghost view = { λ h. record { qubits = h.qubits; numbers = held h.form h.columns.numbers h.wide.items } };
+    ghost view = { λ h. record { qubits = h.qubits; numbers = held h.form h.places } };
 
-    ghost invariant = { λ h. IsKept h.qubits h.form h.columns h.wide.items };
+    ghost invariant = { λ h. IsKept h.qubits h.form h.places };
 }
 
 impl Half {
     ghost use Rattle.qh_half.specs.Halves.{IsHalf, AfterMatrix};
 
-    /// The half of 1 to 20 qubits with 1 at index 0 and 0 elsewhere. It takes 96 bytes a number.
+    /// The half of 1 to 20 qubits with 1 at index 0 and 0 elsewhere. It takes 120 bytes a number, and writes
+    /// 8 of them.
     pub fn ground(alloc: Global, qubits: u32) -> Result<Half, AllocError>
         requires some { 1 ≤ qubits }
         requires few { qubits ≤ max_part_qubits }
         ensures { IfOk result (λ h. h ≡ record { qubits = qubits; numbers = Some (listed qubits ground) }) }
     {
-        let columns = Columns::ground(alloc, qubits)?;
-        let wide = wide_room(alloc, qubits)?;
+        let places = Places::ground(alloc, qubits)?;
         Ok(Half {
             qubits,
-            form: Form::Narrow,
-            columns,
-            wide,
+            form: Form::Narrow16,
+            places,
         })
     }
 
@@ -80,7 +78,7 @@ impl Half {
         ensures value { IfSome self.now.numbers (λ v. result ≡ at_index v index) }
         ensures bounded { IsWithin coefficient_bits result }
     {
-        number_of(self.form, &self.columns, &self.wide, self.qubits, index)
+        number_of(self.form, &self.places, self.qubits, index)
     }
 
     /// Applies the matrix to qubit `q`, which is one step. It is Over exactly where the half was over already or a new
@@ -94,19 +92,12 @@ impl Half {
         ensures step { steps.new ≡ steps.old + 1 }
     {
         steps.tick();
-        self.form = turn1(
-            self.form,
-            &mut self.columns,
-            &mut self.wide,
-            self.qubits,
-            m,
-            q,
-        );
+        self.form = turn1(self.form, &mut self.places, self.qubits, m, q);
         answer_of(self.form)
     }
 
-    /// Applies the matrix to the distinct qubits `q0` and `q1`, which is one step. Each row of the matrix has at most one
-    /// entry other than Zero, so it is Over exactly where the half was over already.
+    /// Applies the matrix to the distinct qubits `q0` and `q1`, which is one step. Each row of the matrix has at most
+    /// one entry other than Zero, so it is Over exactly where the half was over already.
     pub fn apply2<L: Ledger>(
         &mut self,
         m: &Mat4,
@@ -126,15 +117,7 @@ impl Half {
         ensures step { steps.new ≡ steps.old + 1 }
     {
         steps.tick();
-        turn2(
-            self.form,
-            &mut self.columns,
-            &mut self.wide,
-            self.qubits,
-            m,
-            q0,
-            q1,
-        );
+        turn2(self.form, &mut self.places, self.qubits, m, q0, q1);
         answer_of(self.form)
     }
 
@@ -143,9 +126,12 @@ impl Half {
         requires { self.old.qubits ≡ other.now.qubits }
         ensures { self.new ≡ other.now }
     {
+        let places = &mut self.places;
         match other.form {
-            Form::Narrow => self.columns.copy_from(&other.columns),
-            Form::Wide => self.wide.copy_from_slice(&other.wide),
+            Form::Narrow16 => places.narrow16.copy_from(&other.places.narrow16),
+            Form::Narrow32 => places.narrow32.copy_from(&other.places.narrow32),
+            Form::Narrow64 => places.narrow64.copy_from(&other.places.narrow64),
+            Form::Wide => places.wide.copy_from(&other.places.wide),
             Form::Over => (),
         }
         self.form = other.form;

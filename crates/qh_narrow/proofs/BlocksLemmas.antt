@@ -70,7 +70,7 @@ after_at lanes b m qs v w k e l =
     ∙ get_or-map-range_with_len (applied m qs (at_index (numbers lanes b v))) 0 n k k nothing ln z
     ∙ sym (applied_at lanes b m qs v k)
 
-past_end : {V : Type 0} (lanes : V → List ℤ) (b : ℕ) (v : List (Block V)) (k : ℕ) → 2 ^ b * length v ≤ k → number_at lanes b v k ≡ nothing
+pub past_end : {V : Type 0} (lanes : V → List ℤ) (b : ℕ) (v : List (Block V)) (k : ℕ) → 2 ^ b * length v ≤ k → number_at lanes b v k ≡ nothing
 past_end lanes b v k l = sym (numbers_at lanes b v k) ∙ get_or_past (numbers lanes b v) k nothing (subst (λ t. t ≤ k) (sym (length_numbers lanes b v)) l)
 
 -- is that matrix on the state

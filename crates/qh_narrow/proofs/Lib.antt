@@ -1,3 +1,5 @@
 -- Lemmas that the answers cite.
 mod BlocksLemmas
+mod StoredLemmas
+mod WidenLemmas
 mod WithinLemmas

@@ -1,10 +1,10 @@
 -- Bounds of a state's numbers and of the blocks that hold them.
-use Rattle.std.proofs.Common.{◌≡◌, ℕ, ◌+◌, ◌-◌, ◌*◌, ◌/◌, ◌%◌, ◌^◌, ◌<◌, ◌≤◌, inl, inr, ℤ, List, length, get_or, arith, ap, sym, subst, ◌∙◌}
+use Rattle.std.proofs.Common.{◌≡◌, ℕ, ◌+◌, ◌-◌, ◌*◌, ◌/◌, ◌%◌, ◌^◌, ◌<◌, ◌≤◌, inl, inr, ℤ, List, length, get_or, map, arith, ap, sym, subst, ◌∙◌}
 use Rattle.std.specs.List.{All}
 use Rattle.std.proofs.lemmas.Nat.{pow_pos, mod_below}
 use Rattle.std.proofs.lemmas.Bool.{cases_lt}
 use Rattle.std.proofs.Math.Pow.{pow_mono}
-use Rattle.std.proofs.lemmas.List.{length-map, get_or-map}
+use Rattle.std.proofs.lemmas.List.{length-map, get_or-map, get_or_past}
 use Rattle.std.proofs.lemmas.List.Elements.{All-map}
 use Rattle.std.proofs.lemmas.List.FromFn.{get_or-map-range_with_len, length-map-range_with_len}
 use Rattle.qh_ring.specs.declared.number.Omega.{Omega}
@@ -14,7 +14,7 @@ use Rattle.qh_ring.proofs.ListedLemmas.{length-listed, at_listed, applied_listed
 use Rattle.qh_kernel.proofs.DoneLemmas.{AreQubits}
 use Rattle.qh_blocks.specs.declared.block.Block.{Block}
 use Rattle.qh_blocks.specs.Blocks.{lane, IsBlock}
-use Rattle.qh_blocks.specs.Numbers.{number_at, numbers}
+use Rattle.qh_blocks.specs.Numbers.{number_at, number_in_block, numbers}
 use Rattle.qh_blocks.proofs.NumbersLemmas.{length_numbers, block_below}
 use Rattle.qh_blocks.proofs.PartLemmas.{applied_at, block_more, blocks_more}
 use Rattle.qh_blocks.proofs.ScanLemmas.{blocks_of_numbers}
@@ -28,14 +28,14 @@ within_more m n z l h =
     let ha = h.a in let hb = h.b in let hc = h.c in let hd = h.d in
     record { a = omega arith; b = omega arith; c = omega arith; d = omega arith }
 
-within_nothing : (n : ℕ) → IsWithin n nothing
+pub within_nothing : (n : ℕ) → IsWithin n nothing
 within_nothing n = record { a = pow_pos n; b = pow_pos n; c = pow_pos n; d = pow_pos n }
 
 below_room : (k m n : ℕ) → k < m → m ≤ n → k < n
 below_room k m n l h = omega arith
 
 -- ---- a list of a state
-all_listed : (q n : ℕ) (f : ℕ → Omega) → ((k : ℕ) → k < 2 ^ q → IsWithin n (f k)) → All (IsWithin n) (listed q f)
+pub all_listed : (q n : ℕ) (f : ℕ → Omega) → ((k : ℕ) → k < 2 ^ q → IsWithin n (f k)) → All (IsWithin n) (listed q f)
 unfolding listed
 all_listed q n f h i d l =
     let li : i < 2 ^ q = subst (λ t. i < t) (length-listed q f) l in
@@ -117,16 +117,19 @@ pub blocks_within : {V : Type 0} (lanes : V → List ℤ) (b q bits n : ℕ) (v 
 blocks_within lanes b q bits n v o h first = blocks_of_numbers lanes b bits n v h (all_numbers lanes b q n v o first)
 
 -- ---- one number
-pub block_here : {V : Type 0} (lanes : V → List ℤ) (b q : ℕ) (v : List (Block V)) (k : ℕ) → AreBlocksOf lanes b q v → k < 2 ^ q → k / 2 ^ b < length v
-block_here lanes b q v k o l =
-    block_below k b (length v) (below_room k (2 ^ q) (2 ^ b * length v) l (room_of lanes b q v o))
-
-pub number_here : {V : Type 0} (lanes : V → List ℤ) (b q : ℕ) (v : List (Block V)) (i k r : ℕ) (x : Block V) → AreBlocksOf lanes b q v → i < 2 ^ q → k ≡ i / 2 ^ b → r ≡ i % 2 ^ b
+pub number_here : {V : Type 0} (lanes : V → List ℤ) (b q : ℕ) (v : List (Block V)) (i k r : ℕ) (x : Block V) → i < 2 ^ q → k < length v → k ≡ i / 2 ^ b → r ≡ i % 2 ^ b
     → x ≡ get_or v k x → lane lanes r x ≡ at_index (first_numbers lanes b q v) i
-number_here lanes b q v i k r x o l ek er e =
+number_here lanes b q v i k r x l lk ek er e =
     ap (λ n. lane lanes n x) er
-    ∙ ap (lane lanes (i % 2 ^ b)) (e ∙ ap (λ n. get_or v n x) ek)
-    ∙ sym (get_or-map (lane lanes (i % 2 ^ b)) v (i / 2 ^ b) x nothing (block_here lanes b q v i o l))
+    ∙ ap (lane lanes (i % 2 ^ b)) e
+    ∙ sym (get_or-map (lane lanes (i % 2 ^ b)) v k x nothing lk)
+    ∙ ap (λ n. number_in_block lanes v n (i % 2 ^ b)) ek
+    ∙ sym (at_listed q (number_at lanes b v) i l)
+
+-- a block that is not there has the numbers 0
+pub number_past : {V : Type 0} (lanes : V → List ℤ) (b q : ℕ) (v : List (Block V)) (i k : ℕ) → i < 2 ^ q → length v ≤ k → k ≡ i / 2 ^ b → nothing ≡ at_index (first_numbers lanes b q v) i
+number_past lanes b q v i k l past e =
+    sym (get_or_past (map (lane lanes (i % 2 ^ b)) v) (i / 2 ^ b) nothing (subst (λ n. n ≤ i / 2 ^ b) (sym (length-map v (lane lanes (i % 2 ^ b)))) (subst (λ n. length v ≤ n) e past)))
     ∙ sym (at_listed q (number_at lanes b v) i l)
 
 pub kept_more : {V : Type 0} (lanes : V → List ℤ) (w bits room : ℕ) (v : List (Block V)) → bits < room → All (IsBlock lanes w bits) v → All (IsBlock lanes w (room - 1)) v
@@ -135,6 +138,6 @@ kept_more lanes w bits room v l h = blocks_more lanes w bits (room - 1) v (last_
 pub block_room : {V : Type 0} (lanes : V → List ℤ) (w room : ℕ) (v : List (Block V)) (k : ℕ) (x : Block V) → All (IsBlock lanes w (room - 1)) v → k < length v → x ≡ get_or v k x → IsBlock lanes w room x
 block_room lanes w room v k x h l e = block_more lanes w (room - 1) room x (omega arith) (subst (IsBlock lanes w (room - 1)) (sym e) (h k x l))
 
--- a number of the list
-pub at_within : (q n : ℕ) (f : ℕ → Omega) (i : ℕ) → All (IsWithin n) (listed q f) → i < 2 ^ q → IsWithin n (at_index (listed q f) i)
-at_within q n f i h l = h i nothing (subst (λ t. i < t) (sym (length-listed q f)) l)
+-- the number of a lane is within the bound of its block
+pub lane_here : {V : Type 0} (lanes : V → List ℤ) (w bits : ℕ) (v : List (Block V)) (k r : ℕ) (x : Block V) → All (IsBlock lanes w bits) v → k < length v → r < w → x ≡ get_or v k x → IsWithin bits (lane lanes r x)
+lane_here lanes w bits v k r x h l lr e = lane_is_within lanes w bits x r lr (subst (IsBlock lanes w bits) (sym e) (h k x l))

@@ -16,7 +16,7 @@ use qh_vectors::Vector;
 use std::alloc::{AllocError, Global};
 
 /// The number of qubits above the lanes.
-fn high_qubits(qubits: u32, places: u32) -> u32
+pub(crate) fn high_qubits(qubits: u32, places: u32) -> u32
     ensures { result ≡ qubits - places }
 {
     qubits.saturating_sub(places)
@@ -56,13 +56,14 @@ fn fits1<V: Vector>(v: &[Block<V>], qubits: u32, q: u32, bits: u32, m: &Mat2) ->
     fits_after(v, high, q, bits, V::ROOM - 1, m)
 }
 
-/// The true bound of blocks whose numbers are within 2^(ROOM - 1).
-fn true_bits<V: Vector>(v: &[Block<V>], qubits: u32) -> u32
-    requires blocks { AreBlocksOf V.lanes V.PLACES qubits v.now }
-    requires bounded { All (IsBlock V.lanes (2 ^ V.PLACES) V.ROOM) v.now }
-    requires within { All (IsWithin (V.ROOM - 1)) (first_numbers V.lanes V.PLACES qubits v.now) }
+/// A bound of the blocks: the tracked one where it has room for the matrix, else the least.
+fn known_bits<V: Vector>(v: &[Block<V>], qubits: u32, bits: u32, m: &Mat2) -> u32
+    requires kept { AreKept V.lanes V.PLACES V.ROOM qubits bits v.now }
     ensures { AreKept V.lanes V.PLACES V.ROOM qubits result v.now }
 {
+    if width_of(m, bits) < V::ROOM {
+        return bits;
+    }
     bits_of(v)
 }
 
@@ -82,16 +83,18 @@ pub(crate) fn turn1<V: Vector>(
     ensures wide { OnErr result (¬ All (IsWithin (V.ROOM - 1)) (applied_list (number_in m.now.rows) (q ∷ []) (first_numbers V.lanes V.PLACES qubits v.old))) }
     ensures same { OnErr result (v.new ≡ v.old) }
 {
-    let tracked = width_of(m, bits);
-    if tracked < V::ROOM {
-        pass1(v, qubits, q, bits, m);
-        return Ok(tracked);
+    let room = V::ROOM;
+    let known = known_bits(v, qubits, bits, m);
+    let new = width_of(m, known);
+    if new < room {
+        pass1(v, qubits, q, known, m);
+        return Ok(new);
     }
-    if !fits1(v, qubits, q, bits, m) {
+    if !fits1(v, qubits, q, known, m) {
         return Err(Wide);
     }
-    pass1(v, qubits, q, bits, m);
-    Ok(true_bits(v, qubits))
+    pass1(v, qubits, q, known, m);
+    Ok(room - 1)
 }
 
 /// Applies the matrix, each of whose rows has at most one entry, to the distinct qubits `q0` and `q1`. The bound stays.

@@ -5,10 +5,11 @@ ghost use Rattle.qh_ring.specs.Numbers.{IsWithin};
 ghost use Rattle.qh_ring.specs.Matrices.{number_in};
 ghost use Rattle.qh_ring.specs.States.{at_index, applied_list, listed, ground};
 ghost use Rattle.qh_kernel.specs.Rows.{are_single};
-ghost use Rattle.qh_narrow.specs.Columns.{narrow_bits};
+ghost use Rattle.qh_narrow.specs.Columns.{narrow_bits, zeros};
 
-use crate::blocks::{ground_state, turn1, turn2};
+use crate::columns32::Columns32;
 use crate::number::number_of;
+use crate::stored::{change1, change2, copy_onto, stored_ground, stored_zeros};
 use crate::wide::Wide;
 use qh_blocks::Block;
 use qh_ring::{Mat2, Mat4, Omega};
@@ -16,8 +17,8 @@ use std::alloc::{AllocError, Global};
 use std::marker::Model;
 use std::simd::i64x8;
 
-/// The state of at most 20 qubits, each coefficient's magnitude below 2^62. Qubit q is bit q of an index. Contracts see the
-/// number of qubits and the list of numbers.
+/// The state of at most 20 qubits, each coefficient's magnitude below 2^62. Qubit q is bit q of an index. Contracts see
+/// the number of qubits and the list of numbers.
 #[derive(Drop)]
 pub struct Columns {
     qubits: u32,
@@ -26,13 +27,15 @@ pub struct Columns {
 }
 
 impl Model for Columns {
-    ghost use Rattle.qh_narrow.specs.Columns.{Columns, lanes64, places64, room64, first_numbers, AreKept};
+    ghost use Rattle.std.specs.Prelude.{◌≤◌, ◌-◌, ◌^◌};
+    ghost use Rattle.std.specs.Vec.{vec_capacity};
+    ghost use Rattle.qh_narrow.specs.Columns.{Columns, lanes64, places64, room64, first_numbers, AreHeld};
 
     ghost Value = { Columns };
 
     ghost view = { λ s. record { qubits = s.qubits; numbers = first_numbers lanes64 places64 s.qubits s.blocks.items } };
 
-    ghost invariant = { λ s. AreKept lanes64 places64 room64 s.qubits s.bits s.blocks.items };
+    ghost invariant = { λ s. AreHeld lanes64 places64 room64 s.qubits s.bits s.blocks.items × (2 ^ (s.qubits - places64) ≤ vec_capacity s.blocks) };
 }
 
 impl Columns {
@@ -44,7 +47,22 @@ impl Columns {
         requires few { qubits ≤ max_part_qubits }
         ensures { IfOk result (λ s. s ≡ record { qubits = qubits; numbers = listed qubits ground }) }
     {
-        let blocks = ground_state(alloc, qubits)?;
+        let blocks = stored_ground(alloc, qubits)?;
+        Ok(Columns {
+            qubits,
+            bits: 1,
+            blocks,
+        })
+    }
+
+    /// The number 0 at each index of 1 to 20 qubits. It takes as much memory, and writes none of it until numbers are
+    /// copied onto it.
+    pub fn zeros(alloc: Global, qubits: u32) -> Result<Columns, AllocError>
+        requires some { 1 ≤ qubits }
+        requires few { qubits ≤ max_part_qubits }
+        ensures { IfOk result (λ s. s ≡ record { qubits = qubits; numbers = listed qubits zeros }) }
+    {
+        let blocks = stored_zeros(alloc, qubits)?;
         Ok(Columns {
             qubits,
             bits: 1,
@@ -70,7 +88,7 @@ impl Columns {
         ensures wide { OnErr result (¬ All (IsWithin narrow_bits) (applied_list (number_in m.now.rows) (q ∷ []) self.old.numbers)) }
         ensures kept { OnErr result (self.new ≡ self.old) }
     {
-        match turn1(&mut self.blocks, self.qubits, q, self.bits, m) {
+        match change1(&mut self.blocks, self.qubits, q, self.bits, m) {
             Ok(bits) => {
                 self.bits = bits;
                 Ok(())
@@ -79,8 +97,8 @@ impl Columns {
         }
     }
 
-    /// Applies the matrix to the distinct qubits `q0` and `q1`. Each row of the matrix has at most one entry other than Zero,
-    /// so that no coefficient's magnitude grows: it is never Wide.
+    /// Applies the matrix to the distinct qubits `q0` and `q1`. Each row of the matrix has at most one entry other than
+    /// Zero, so that no coefficient's magnitude grows: it is never Wide.
     pub fn apply2(&mut self, m: &Mat4, q0: u32, q1: u32) -> Result<(), Wide>
         requires first { q0 < self.old.qubits }
         requires second { q1 < self.old.qubits }
@@ -91,7 +109,7 @@ impl Columns {
         ensures exact { self.new.numbers ≡ applied_list (number_in m.now.rows) (q0 ∷ q1 ∷ []) self.old.numbers }
         ensures within { All (IsWithin narrow_bits) self.new.numbers }
     {
-        turn2(&mut self.blocks, self.qubits, q0, q1, self.bits, m);
+        change2(&mut self.blocks, self.qubits, q0, q1, self.bits, m);
         Ok(())
     }
 
@@ -101,7 +119,15 @@ impl Columns {
         ensures { self.new ≡ other.now }
     {
         self.bits = other.bits;
-        self.blocks.copy_from_slice(&other.blocks);
+        copy_onto(&mut self.blocks, &other.blocks);
+    }
+
+    /// Becomes the state in narrower lanes, of as many qubits. It reads 16 bytes a number and writes 32.
+    pub fn widen_from(&mut self, other: &Columns32)
+        requires { self.old.qubits ≡ other.now.qubits }
+        ensures { self.new ≡ other.now }
+    {
+        self.bits = other.widen_onto(&mut self.blocks);
     }
 
     /// The number at an index.

@@ -4,7 +4,7 @@ ghost use Rattle.qh_ring.specs.Numbers.{IsWithin};
 ghost use Rattle.qh_ring.specs.States.{at_index};
 ghost use Rattle.qh_vectors.specs.Lanes.{at_lane, AreBelow};
 ghost use Rattle.qh_blocks.specs.Blocks.{lane, IsBlock};
-ghost use Rattle.qh_narrow.specs.Columns.{first_numbers, AreBlocksOf};
+ghost use Rattle.qh_narrow.specs.Columns.{first_numbers};
 
 use qh_blocks::Block;
 use qh_ring::Omega;
@@ -49,16 +49,19 @@ fn lane_number<V: Vector>(x: &Block<V>, r: usize) -> Omega
     }
 }
 
-/// The number at an index of a state of so many qubits.
+/// The number at an index of a state of so many qubits. Where its block is not there, it is 0.
 pub(crate) fn number_of<V: Vector>(v: &[Block<V>], qubits: u32, index: u32) -> Omega
     requires index { index < 2 ^ qubits }
-    requires blocks { AreBlocksOf V.lanes V.PLACES qubits v.now }
     requires bounded { All (IsBlock V.lanes (2 ^ V.PLACES) (V.ROOM - 1)) v.now }
     ensures value { result ≡ at_index (first_numbers V.lanes V.PLACES qubits v.now) index }
     ensures within { IsWithin (V.ROOM - 1) result }
 {
     let places = V::PLACES;
     let k = block_index(index, places);
+    let count = v.len();
+    if k >= count {
+        return Omega::ZERO;
+    }
     let r = lane_index(index, places);
     lane_number(&v[k], r)
 }

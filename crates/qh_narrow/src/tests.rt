@@ -1,10 +1,11 @@
-//! Drawn circuits beside the wide numbers of qh_kernel, and the edge of the lanes.
+//! Drawn circuits at each width beside the wide numbers of qh_kernel, the edges of the lanes, and the steps to wider
+//! ones.
 ghost use Rattle.std.specs.Prelude.{◌≤◌, ◌↔◌, ◌≡◌, ◌^◌, All, length, IsTrue};
 ghost use Rattle.qh_limits.specs.Limits.{coefficient_bits};
 ghost use Rattle.qh_ring.specs.Numbers.{IsWithin};
 ghost use Rattle.qh_kernel.specs.Rows.{is_single, are_single};
 
-use crate::{Columns, Wide};
+use crate::{Columns, Columns16, Columns32, Wide};
 use qh_limits::COEFFICIENT_BITS;
 use qh_ring::{Entry, Mat2, Mat4, Omega, within};
 use std::alloc::Global;
@@ -157,38 +158,162 @@ fn wide2(rt: &impl Abort, all: &mut [Omega; 64], qubits: u32, m: &Mat4, q0: u32,
     qh_kernel::apply2(v, qubits, m, q0, q1);
 }
 
-fn at(rt: &impl Abort, columns: &Columns, index: u32) -> Omega {
-    let qubits = columns.qubits();
-    assert!(rt; qubits <= 6);
-    assert!(rt; (index as usize) < count_of(qubits));
-    columns.at(index)
+/// Columns of one width, whose calls test what they require.
+trait Width: Drop {
+    /// Coefficients have magnitudes below 2^BITS.
+    const BITS: u32;
+
+    fn start(alloc: Global, qubits: u32) -> Result<Self, Fail>
+        requires some { 1 ≤ qubits }
+        requires few { qubits ≤ 6 };
+
+    fn count(&self) -> u32;
+
+    fn number(&self, rt: &impl Abort, index: u32) -> Omega;
+
+    fn turn1(&mut self, rt: &impl Abort, m: &Mat2, q: u32) -> Result<(), Wide>;
+
+    fn turn2(&mut self, rt: &impl Abort, m: &Mat4, q0: u32, q1: u32) -> Result<(), Wide>;
+
+    fn copy(&mut self, rt: &impl Abort, other: &Self);
 }
 
-fn equals(rt: &impl Abort, columns: &Columns, v: &[Omega; 64]) -> bool {
-    let qubits = columns.qubits();
+impl Width for Columns16 {
+    const BITS: u32 = 14;
+
+    fn start(alloc: Global, qubits: u32) -> Result<Self, Fail> {
+        Ok(Columns16::ground(alloc, qubits)?)
+    }
+
+    fn count(&self) -> u32 {
+        self.qubits()
+    }
+
+    fn number(&self, rt: &impl Abort, index: u32) -> Omega {
+        let qubits = self.qubits();
+        assert!(rt; qubits <= 6);
+        assert!(rt; (index as usize) < count_of(qubits));
+        self.at(index)
+    }
+
+    fn turn1(&mut self, rt: &impl Abort, m: &Mat2, q: u32) -> Result<(), Wide> {
+        let qubits = self.qubits();
+        assert!(rt; q < qubits);
+        self.apply1(m, q)
+    }
+
+    fn turn2(&mut self, rt: &impl Abort, m: &Mat4, q0: u32, q1: u32) -> Result<(), Wide> {
+        let qubits = self.qubits();
+        assert!(rt; q0 < qubits && q1 < qubits && q0 != q1);
+        assert!(rt; are_single_rows(m));
+        self.apply2(m, q0, q1)
+    }
+
+    fn copy(&mut self, rt: &impl Abort, other: &Self) {
+        let qubits = self.qubits();
+        let others = other.qubits();
+        assert!(rt; qubits == others);
+        self.copy_from(other);
+    }
+}
+
+impl Width for Columns32 {
+    const BITS: u32 = 30;
+
+    fn start(alloc: Global, qubits: u32) -> Result<Self, Fail> {
+        Ok(Columns32::ground(alloc, qubits)?)
+    }
+
+    fn count(&self) -> u32 {
+        self.qubits()
+    }
+
+    fn number(&self, rt: &impl Abort, index: u32) -> Omega {
+        let qubits = self.qubits();
+        assert!(rt; qubits <= 6);
+        assert!(rt; (index as usize) < count_of(qubits));
+        self.at(index)
+    }
+
+    fn turn1(&mut self, rt: &impl Abort, m: &Mat2, q: u32) -> Result<(), Wide> {
+        let qubits = self.qubits();
+        assert!(rt; q < qubits);
+        self.apply1(m, q)
+    }
+
+    fn turn2(&mut self, rt: &impl Abort, m: &Mat4, q0: u32, q1: u32) -> Result<(), Wide> {
+        let qubits = self.qubits();
+        assert!(rt; q0 < qubits && q1 < qubits && q0 != q1);
+        assert!(rt; are_single_rows(m));
+        self.apply2(m, q0, q1)
+    }
+
+    fn copy(&mut self, rt: &impl Abort, other: &Self) {
+        let qubits = self.qubits();
+        let others = other.qubits();
+        assert!(rt; qubits == others);
+        self.copy_from(other);
+    }
+}
+
+impl Width for Columns {
+    const BITS: u32 = 62;
+
+    fn start(alloc: Global, qubits: u32) -> Result<Self, Fail> {
+        Ok(Columns::ground(alloc, qubits)?)
+    }
+
+    fn count(&self) -> u32 {
+        self.qubits()
+    }
+
+    fn number(&self, rt: &impl Abort, index: u32) -> Omega {
+        let qubits = self.qubits();
+        assert!(rt; qubits <= 6);
+        assert!(rt; (index as usize) < count_of(qubits));
+        self.at(index)
+    }
+
+    fn turn1(&mut self, rt: &impl Abort, m: &Mat2, q: u32) -> Result<(), Wide> {
+        let qubits = self.qubits();
+        assert!(rt; q < qubits);
+        self.apply1(m, q)
+    }
+
+    fn turn2(&mut self, rt: &impl Abort, m: &Mat4, q0: u32, q1: u32) -> Result<(), Wide> {
+        let qubits = self.qubits();
+        assert!(rt; q0 < qubits && q1 < qubits && q0 != q1);
+        assert!(rt; are_single_rows(m));
+        self.apply2(m, q0, q1)
+    }
+
+    fn copy(&mut self, rt: &impl Abort, other: &Self) {
+        let qubits = self.qubits();
+        let others = other.qubits();
+        assert!(rt; qubits == others);
+        self.copy_from(other);
+    }
+}
+
+fn equals<C: Width>(rt: &impl Abort, columns: &C, v: &[Omega; 64]) -> bool {
+    let qubits = columns.count();
     for x in 0..64u32 {
-        if x >> qubits.min(6) == 0 && at(rt, columns, x) != v[x as usize] {
+        if x >> qubits.min(6) == 0 && columns.number(rt, x) != v[x as usize] {
             return false;
         }
     }
     true
 }
 
-fn apply1(rt: &impl Abort, columns: &mut Columns, m: &Mat2, q: u32) -> Result<(), Wide> {
-    let qubits = columns.qubits();
-    assert!(rt; q < qubits);
-    columns.apply1(m, q)
-}
-
 /// Applies the matrix to both, and compares them. Where the columns are too narrow, both stay.
-fn step1(rt: &impl Abort, columns: &mut Columns, v: &mut [Omega; 64], m: &Mat2, q: u32) {
-    let qubits = columns.qubits();
+fn step1<C: Width>(rt: &impl Abort, columns: &mut C, v: &mut [Omega; 64], m: &Mat2, q: u32) {
+    let qubits = columns.count();
     let mut new = *v;
     wide1(rt, &mut new, qubits, m, q);
-    let answer = apply1(rt, columns, m, q);
+    let answer = columns.turn1(rt, m, q);
     assert_eq!(rt;
         answer.is_ok(),
-        fit(rt, &new, 62),
+        fit(rt, &new, C::BITS),
         "{m:?} on {q} of {qubits}"
     );
     if answer.is_ok() {
@@ -197,20 +322,18 @@ fn step1(rt: &impl Abort, columns: &mut Columns, v: &mut [Omega; 64], m: &Mat2, 
     assert!(rt; equals(rt, columns, v), "{m:?} on {q} of {qubits}");
 }
 
-fn step2(rt: &impl Abort, columns: &mut Columns, v: &mut [Omega; 64], m: &Mat4, q0: u32, q1: u32) {
-    let qubits = columns.qubits();
+fn step2<C: Width>(
+    rt: &impl Abort,
+    columns: &mut C,
+    v: &mut [Omega; 64],
+    m: &Mat4,
+    q0: u32,
+    q1: u32,
+) {
+    let qubits = columns.count();
     wide2(rt, v, qubits, m, q0, q1);
-    assert!(rt; q0 < qubits && q1 < qubits && q0 != q1);
-    assert!(rt; are_single_rows(m));
-    assert_eq!(rt; columns.apply2(m, q0, q1), Ok(()));
+    assert_eq!(rt; columns.turn2(rt, m, q0, q1), Ok(()));
     assert!(rt; equals(rt, columns, v), "{m:?} on {q0} {q1} of {qubits}");
-}
-
-fn copy_onto(rt: &impl Abort, columns: &mut Columns, other: &Columns) {
-    let qubits = columns.qubits();
-    let others = other.qubits();
-    assert!(rt; qubits == others);
-    columns.copy_from(other);
 }
 
 /// The next number that is drawn.
@@ -221,80 +344,169 @@ fn draw(state: &mut u64) -> u32 {
     (*state >> 33) as u32
 }
 
-/// 60 drawn gates on columns in the ground state: about one in three acts on two qubits, where there are two.
-fn run(rt: &impl Abort, mut columns: Columns, seed: u64) {
-    let qubits = columns.qubits();
+/// Drawn gates on columns and the same numbers: about one in three acts on two qubits, where there are two.
+fn run_gates<C: Width>(
+    rt: &impl Abort,
+    columns: &mut C,
+    v: &mut [Omega; 64],
+    state: &mut u64,
+    gates: u32,
+) {
+    let qubits = columns.count();
     assert!(rt; 1 <= qubits);
-    let mut v = [Omega::ZERO; 64];
-    v[0] = Omega::ONE;
-    assert!(rt; equals(rt, &columns, &v));
-    let mut state = seed;
-    for _gate in 0..60 {
-        let q0 = draw(&mut state) % qubits;
-        let q1 = draw(&mut state) % qubits;
-        let kind = draw(&mut state);
-        match draw(&mut state) % 3 {
-            0 if q0 != q1 => step2(rt, &mut columns, &mut v, &matrix2(kind), q0, q1),
-            1 => step1(rt, &mut columns, &mut v, &dense(kind), q0),
-            _ => step1(rt, &mut columns, &mut v, &moved(kind), q0),
+    assert!(rt; equals(rt, columns, v));
+    for _gate in 0..gates {
+        let q0 = draw(state) % qubits;
+        let q1 = draw(state) % qubits;
+        let kind = draw(state);
+        match draw(state) % 3 {
+            0 if q0 != q1 => step2(rt, columns, v, &matrix2(kind), q0, q1),
+            1 => step1(rt, columns, v, &dense(kind), q0),
+            _ => step1(rt, columns, v, &moved(kind), q0),
         }
     }
 }
 
-fn run_all(rt: &impl Abort, alloc: Global) -> Result<(), Fail> {
+/// 60 drawn gates on columns in the ground state.
+fn run<C: Width>(rt: &impl Abort, mut columns: C, seed: u64) {
+    let mut v = [Omega::ZERO; 64];
+    v[0] = Omega::ONE;
+    let mut state = seed;
+    run_gates(rt, &mut columns, &mut v, &mut state, 60);
+}
+
+fn run_all<C: Width>(rt: &impl Abort, alloc: Global) -> Result<(), Fail> {
     for qubits in 1..7u32 {
-        for seed in 0..12u64 {
-            run(rt, Columns::ground(alloc, qubits)?, seed);
+        for seed in 0..6u64 {
+            run(rt, C::start(alloc, qubits)?, seed);
         }
     }
     Ok(())
 }
 
-/// The first of many Hadamard gates on one qubit of the ground state for which the columns are too narrow. Before it both
-/// numbers of this qubit are `most`.
-fn first_wide(rt: &impl Abort, mut columns: Columns, q: u32, most: i128) -> u32 {
+/// The first of many Hadamard gates on one qubit of the ground state for which the columns are too narrow. Before it
+/// both numbers of this qubit are `most`.
+fn first_wide<C: Width>(rt: &impl Abort, mut columns: C, q: u32, most: i128) -> u32 {
     assert!(rt; q < 6);
     let whole = Omega {
         a: most,
         ..Omega::ZERO
     };
     for n in 1..200u32 {
-        if apply1(rt, &mut columns, &dense(0), q).is_err() {
-            assert_eq!(rt; at(rt, &columns, 0), whole, "{q}");
-            assert_eq!(rt; at(rt, &columns, 1u32 << q), whole, "{q}");
+        if columns.turn1(rt, &dense(0), q).is_err() {
+            assert_eq!(rt; columns.number(rt, 0), whole, "{q}");
+            assert_eq!(rt; columns.number(rt, 1u32 << q), whole, "{q}");
             return n;
         }
     }
     0
 }
 
-#[test]
-fn drawn_circuits(rt: HostRuntime) -> Result<(), Fail> {
-    run_all(&rt, rt.alloc())
-}
-
 /// After 2k - 1 Hadamard gates on one qubit both its numbers are 2^(k - 1), and one more makes the first 2^k.
-#[test]
-fn edges(rt: HostRuntime) -> Result<(), Fail> {
+fn run_edges<C: Width>(rt: &impl Abort, alloc: Global, most: i128, first: u32) -> Result<(), Fail> {
     for (qubits, q) in [(1u32, 0u32), (2, 1), (4, 3), (6, 5)] {
-        let columns = Columns::ground(rt.alloc(), qubits)?;
-        assert_eq!(rt; first_wide(&rt, columns, q, 2305843009213693952), 124);
+        let columns = C::start(alloc, qubits)?;
+        assert_eq!(rt; first_wide(rt, columns, q, most), first);
     }
     Ok(())
 }
 
 /// A copy has the numbers and the room of the other.
+fn run_copies<C: Width>(rt: &impl Abort, alloc: Global, gates: u32) -> Result<(), Fail> {
+    let mut columns = C::start(alloc, 1)?;
+    let mut copy = C::start(alloc, 1)?;
+    for _gate in 0..gates {
+        assert_eq!(rt; columns.turn1(rt, &dense(0), 0), Ok(()));
+    }
+    copy.copy(rt, &columns);
+    for index in 0..2 {
+        assert_eq!(rt; copy.number(rt, index), columns.number(rt, index));
+    }
+    assert_eq!(rt; copy.turn1(rt, &dense(0), 0), Err(Wide));
+    Ok(())
+}
+
+/// Gates at one width after the other, over columns of 0 and once more over the columns of before.
+fn run_steps(rt: &impl Abort, alloc: Global, qubits: u32, seed: u64) -> Result<(), Fail> {
+    assert!(rt; 1 <= qubits && qubits <= 6);
+    let mut state = seed;
+    let mut middle = Columns32::zeros(alloc, qubits)?;
+    let mut wide = Columns::zeros(alloc, qubits)?;
+    assert!(rt; equals(rt, &middle, &[Omega::ZERO; 64]));
+    for _time in 0..2 {
+        let mut v = [Omega::ZERO; 64];
+        v[0] = Omega::ONE;
+        let mut narrow = Columns16::ground(alloc, qubits)?;
+        run_gates(rt, &mut narrow, &mut v, &mut state, 40);
+        let counts = (narrow.qubits(), middle.qubits());
+        assert!(rt; counts.0 == counts.1);
+        middle.widen_from(&narrow);
+        run_gates(rt, &mut middle, &mut v, &mut state, 60);
+        let counts = (middle.qubits(), wide.qubits());
+        assert!(rt; counts.0 == counts.1);
+        wide.widen_from(&middle);
+        run_gates(rt, &mut wide, &mut v, &mut state, 80);
+    }
+    Ok(())
+}
+
+/// Columns of 0 stay so, and so do those that become them.
+fn run_zeros(rt: &impl Abort, alloc: Global) -> Result<(), Fail> {
+    let mut zeros = Columns16::zeros(alloc, 5)?;
+    let mut narrow = Columns16::ground(alloc, 5)?;
+    let mut middle = Columns32::ground(alloc, 5)?;
+    let mut v = [Omega::ZERO; 64];
+    let mut state = 1;
+    run_gates(rt, &mut zeros, &mut v, &mut state, 9);
+    narrow.copy(rt, &zeros);
+    assert!(rt; equals(rt, &narrow, &v));
+    let counts = (middle.qubits(), zeros.qubits());
+    assert!(rt; counts.0 == counts.1);
+    middle.widen_from(&zeros);
+    assert!(rt; equals(rt, &middle, &v));
+    Ok(())
+}
+
+#[test]
+fn drawn_circuits16(rt: HostRuntime) -> Result<(), Fail> {
+    run_all::<Columns16>(&rt, rt.alloc())
+}
+
+#[test]
+fn drawn_circuits32(rt: HostRuntime) -> Result<(), Fail> {
+    run_all::<Columns32>(&rt, rt.alloc())
+}
+
+#[test]
+fn drawn_circuits64(rt: HostRuntime) -> Result<(), Fail> {
+    run_all::<Columns>(&rt, rt.alloc())
+}
+
+#[test]
+fn edges(rt: HostRuntime) -> Result<(), Fail> {
+    run_edges::<Columns16>(&rt, rt.alloc(), 8192, 28)?;
+    run_edges::<Columns32>(&rt, rt.alloc(), 536870912, 60)?;
+    run_edges::<Columns>(&rt, rt.alloc(), 2305843009213693952, 124)
+}
+
 #[test]
 fn copies(rt: HostRuntime) -> Result<(), Fail> {
-    let mut columns = Columns::ground(rt.alloc(), 1)?;
-    let mut copy = Columns::ground(rt.alloc(), 1)?;
-    for _gate in 0..123 {
-        assert_eq!(rt; apply1(&rt, &mut columns, &dense(0), 0), Ok(()));
+    run_copies::<Columns16>(&rt, rt.alloc(), 27)?;
+    run_copies::<Columns32>(&rt, rt.alloc(), 59)?;
+    run_copies::<Columns>(&rt, rt.alloc(), 123)
+}
+
+#[test]
+fn steps(rt: HostRuntime) -> Result<(), Fail> {
+    for qubits in 1..7u32 {
+        for seed in 0..4u64 {
+            run_steps(&rt, rt.alloc(), qubits, seed)?;
+        }
     }
-    copy_onto(&rt, &mut copy, &columns);
-    for index in 0..2 {
-        assert_eq!(rt; at(&rt, &copy, index), at(&rt, &columns, index));
-    }
-    assert_eq!(rt; apply1(&rt, &mut copy, &dense(0), 0), Err(Wide));
     Ok(())
+}
+
+#[test]
+fn zeros_stay(rt: HostRuntime) -> Result<(), Fail> {
+    run_zeros(&rt, rt.alloc())
 }

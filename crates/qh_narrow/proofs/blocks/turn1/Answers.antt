@@ -1,25 +1,33 @@
-use Rattle.std.proofs.Common.{◌<◌, ◌^◌, ℕ, subst, sym}
+use Rattle.std.proofs.Common.{◌<◌, ◌-◌, ◌^◌, ℕ, arith, subst, sym}
 use Rattle.std.specs.List.{All}
+use Rattle.qh_ring.specs.Numbers.{IsWithin}
 use Rattle.qh_blocks.specs.Blocks.{IsBlock}
 use Rattle.qh_blocks.specs.Widths.{width_after}
-use Rattle.qh_blocks.proofs.PartLemmas.{blocks_more}
-use Rattle.qh_blocks.proofs.WidthLemmas.{width_room}
-use Rattle.qh_narrow.proofs.WithinLemmas.{first_below}
+use Rattle.qh_narrow.specs.Columns.{first_numbers, AreKept}
+use Rattle.qh_narrow.proofs.WithinLemmas.{first_below, blocks_within}
 use Rattle.qh_narrow.proofs.blocks.turn1.Goals as goal
 
-pub returns-then-tracked-ROOM-clause-kept : goal.returns-then-tracked-ROOM-clause-kept
-returns-then-tracked-ROOM-clause-kept g c = record {
+pub returns-then-new-room-clause-kept : goal.returns-then-new-room-clause-kept
+returns-then-new-room-clause-kept g c = record {
   blocks = c.pass1.ensures.blocks;
-  room_left = subst (λ (n : ℕ). c.width_of-tracked.result < n) c.ROOM.ensures c.if-tracked-ROOM.true;
-  bounded = subst (λ (n : ℕ). All (IsBlock g.V.Vector.lanes (2 ^ g.V.Vector.PLACES) n) c.pass1.new.v) (sym c.width_of-tracked.ensures) c.pass1.ensures.bounded;
+  room_left = subst (λ (n : ℕ). c.width_of-new.result < n) c.ROOM-room.ensures c.if-new-room.true;
+  bounded = subst (λ (n : ℕ). All (IsBlock g.V.Vector.lanes (2 ^ g.V.Vector.PLACES) n) c.pass1.new.v) (sym c.width_of-new.ensures) c.pass1.ensures.bounded;
 }
 
-pub returns-then-tracked-ROOM-clause-within : goal.returns-then-tracked-ROOM-clause-within
-returns-then-tracked-ROOM-clause-within g c =
-    let room : c.width_of-tracked.result < g.V.Vector.ROOM = subst (λ (n : ℕ). c.width_of-tracked.result < n) c.ROOM.ensures c.if-tracked-ROOM.true in
-    first_below g.V.Vector.lanes g.V.Vector.PLACES c.args.qubits (width_after c.args.m.now.rows c.args.bits) g.V.Vector.ROOM c.pass1.new.v (subst (λ (n : ℕ). n < g.V.Vector.ROOM) c.width_of-tracked.ensures room)
-    c.pass1.ensures.blocks c.pass1.ensures.bounded
+pub returns-then-new-room-clause-within : goal.returns-then-new-room-clause-within
+returns-then-new-room-clause-within g c =
+    let room : c.width_of-new.result < g.V.Vector.ROOM = subst (λ (n : ℕ). c.width_of-new.result < n) c.ROOM-room.ensures c.if-new-room.true in
+    first_below g.V.Vector.lanes g.V.Vector.PLACES c.args.qubits (width_after c.args.m.now.rows c.known_bits-known.result) g.V.Vector.ROOM c.pass1.new.v
+    (subst (λ (n : ℕ). n < g.V.Vector.ROOM) c.width_of-new.ensures room) c.pass1.ensures.blocks c.pass1.ensures.bounded
 
-pub true_bits-requires-clause-bounded : goal.true_bits-requires-clause-bounded
-true_bits-requires-clause-bounded g c =
-    blocks_more g.V.Vector.lanes (2 ^ g.V.Vector.PLACES) (width_after c.args.m.now.rows c.args.bits) g.V.Vector.ROOM c.pass1-2.new.v (width_room c.args.m.now.rows c.args.bits g.V.Vector.ROOM c.requires.kept.room_left) c.pass1-2.ensures.bounded
+pub returns-clause-kept : goal.returns-clause-kept
+returns-clause-kept g c =
+    let some = g.met.V.Vector.some_room in
+    let first : All (IsWithin (g.V.Vector.ROOM - 1)) (first_numbers g.V.Vector.lanes g.V.Vector.PLACES c.args.qubits c.pass1-2.new.v) =
+    subst (All (IsWithin (g.V.Vector.ROOM - 1))) (sym c.pass1-2.ensures.exact) (c.fits1.ensures.0 c.if-not-fits1.false) in
+    subst (λ (n : ℕ). AreKept g.V.Vector.lanes g.V.Vector.PLACES g.V.Vector.ROOM c.args.qubits (n - 1) c.pass1-2.new.v) (sym c.ROOM-room.ensures) (record {
+      blocks = c.pass1-2.ensures.blocks;
+      room_left = omega (arith, some);
+      bounded = blocks_within g.V.Vector.lanes g.V.Vector.PLACES c.args.qubits (width_after c.args.m.now.rows c.known_bits-known.result) (g.V.Vector.ROOM - 1) c.pass1-2.new.v
+          c.pass1-2.ensures.blocks c.pass1-2.ensures.bounded first;
+    })

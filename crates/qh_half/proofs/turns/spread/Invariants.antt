@@ -1,5 +1,0 @@
-use Rattle.qh_half.proofs.FormLemmas.{IsSpread}
-use Rattle.qh_half.proofs.turns.spread.Given as goal
-
-abbrev pub invariant-loop-index : goal.invariant-loop-index
-invariant-loop-index l = IsSpread l.columns.numbers l.wide l.index

@@ -1,0 +1,5 @@
+use Rattle.qh_half.proofs.FormLemmas.{IsSpread}
+use Rattle.qh_half.proofs.wide.write_all.Given as goal
+
+abbrev pub invariant-loop-index : goal.invariant-loop-index
+invariant-loop-index l = IsSpread l.columns.numbers l.list l.index

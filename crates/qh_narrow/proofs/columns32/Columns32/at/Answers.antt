@@ -1,0 +1,12 @@
+use Rattle.std.proofs.Common.{◌^◌, ℤ, List, subst, sym}
+use Rattle.std.specs.List.{All}
+use Rattle.qh_blocks.specs.declared.block.Block.{Block}
+use Rattle.qh_blocks.specs.Blocks.{IsBlock}
+use Rattle.qh_narrow.specs.Columns.{lanes32, places32, room32, narrow_bits32}
+use Rattle.qh_narrow.proofs.StoredLemmas.{held_bounded}
+use Rattle.qh_narrow.proofs.columns32.Columns32.at.Goals as goal
+
+pub number_of-requires-clause-bounded : goal.number_of-requires-clause-bounded
+number_of-requires-clause-bounded c =
+    subst (λ (u : List (Block (List ℤ))). All (IsBlock lanes32 (2 ^ places32) narrow_bits32) u) (sym c.deref.ensures.value)
+    (held_bounded lanes32 places32 room32 c.self.inside.qubits c.self.inside.bits c.self.inside.blocks.items c.self.invariant.0)

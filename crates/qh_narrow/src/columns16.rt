@@ -1,0 +1,145 @@
+//! The state of a part in lanes of 16 bits.
+ghost use Rattle.std.specs.Prelude.{◌≡◌, ◌≢◌, ◌<◌, ◌≤◌, ◌+◌, ◌-◌, ◌^◌, [], ◌∷◌, All, IsTrue, OnOk, OnErr, IfOk, IsOk};
+ghost use Rattle.qh_limits.specs.Limits.{max_part_qubits};
+ghost use Rattle.qh_ring.specs.Numbers.{IsWithin};
+ghost use Rattle.qh_ring.specs.Matrices.{number_in};
+ghost use Rattle.qh_ring.specs.States.{at_index, applied_list, listed, ground};
+ghost use Rattle.qh_kernel.specs.Rows.{are_single};
+ghost use Rattle.qh_narrow.specs.Columns.{narrow_bits16, zeros};
+
+use crate::number::number_of;
+use crate::stored::{change1, change2, copy_onto, stored_ground, stored_zeros};
+use crate::wide::Wide;
+use crate::widen::widen_onto;
+use qh_blocks::Block;
+use qh_ring::{Mat2, Mat4, Omega};
+use std::alloc::{AllocError, Global};
+use std::marker::Model;
+use std::simd::{i16x16, i32x8};
+
+/// The state of at most 20 qubits, each coefficient's magnitude below 2^14. Qubit q is bit q of an index. Contracts see
+/// the number of qubits and the list of numbers.
+#[derive(Drop)]
+pub struct Columns16 {
+    qubits: u32,
+    bits: u32,
+    blocks: Vec<Block<i16x16>>,
+}
+
+impl Model for Columns16 {
+    ghost use Rattle.std.specs.Prelude.{◌≤◌, ◌-◌, ◌^◌};
+    ghost use Rattle.std.specs.Vec.{vec_capacity};
+    ghost use Rattle.qh_narrow.specs.Columns.{Columns, lanes16, places16, room16, first_numbers, AreHeld};
+
+    ghost Value = { Columns };
+
+    ghost view = { λ s. record { qubits = s.qubits; numbers = first_numbers lanes16 places16 s.qubits s.blocks.items } };
+
+    ghost invariant = { λ s. AreHeld lanes16 places16 room16 s.qubits s.bits s.blocks.items × (2 ^ (s.qubits - places16) ≤ vec_capacity s.blocks) };
+}
+
+impl Columns16 {
+    ghost use Rattle.std.specs.Vec.{vec_capacity};
+    ghost use Rattle.qh_narrow.specs.Columns.{lanes32, places32, room32, first_numbers, AreColumnsOf, AreHeld};
+
+    /// The state of 1 to 20 qubits with 1 at index 0 and 0 elsewhere. It takes 8 bytes a number, at least 128.
+    pub fn ground(alloc: Global, qubits: u32) -> Result<Columns16, AllocError>
+        requires some { 1 ≤ qubits }
+        requires few { qubits ≤ max_part_qubits }
+        ensures { IfOk result (λ s. s ≡ record { qubits = qubits; numbers = listed qubits ground }) }
+    {
+        let blocks = stored_ground(alloc, qubits)?;
+        Ok(Columns16 {
+            qubits,
+            bits: 1,
+            blocks,
+        })
+    }
+
+    /// The number 0 at each index of 1 to 20 qubits. It takes as much memory, and writes none of it until numbers are
+    /// copied onto it.
+    pub fn zeros(alloc: Global, qubits: u32) -> Result<Columns16, AllocError>
+        requires some { 1 ≤ qubits }
+        requires few { qubits ≤ max_part_qubits }
+        ensures { IfOk result (λ s. s ≡ record { qubits = qubits; numbers = listed qubits zeros }) }
+    {
+        let blocks = stored_zeros(alloc, qubits)?;
+        Ok(Columns16 {
+            qubits,
+            bits: 1,
+            blocks,
+        })
+    }
+
+    /// The number of qubits.
+    pub fn qubits(&self) -> u32
+        ensures value { result ≡ self.now.qubits }
+        ensures valid { AreColumnsOf narrow_bits16 self.now }
+    {
+        self.qubits
+    }
+
+    /// Applies the matrix to qubit `q`. It is Wide exactly where a new coefficient's magnitude is 2^14 or more, and the
+    /// columns are then unchanged.
+    pub fn apply1(&mut self, m: &Mat2, q: u32) -> Result<(), Wide>
+        requires { q < self.old.qubits }
+        ensures qubits { self.new.qubits ≡ self.old.qubits }
+        ensures exact { OnOk result (self.new.numbers ≡ applied_list (number_in m.now.rows) (q ∷ []) self.old.numbers) }
+        ensures within { OnOk result (All (IsWithin narrow_bits16) self.new.numbers) }
+        ensures wide { OnErr result (¬ All (IsWithin narrow_bits16) (applied_list (number_in m.now.rows) (q ∷ []) self.old.numbers)) }
+        ensures kept { OnErr result (self.new ≡ self.old) }
+    {
+        match change1(&mut self.blocks, self.qubits, q, self.bits, m) {
+            Ok(bits) => {
+                self.bits = bits;
+                Ok(())
+            }
+            Err(wide) => Err(wide),
+        }
+    }
+
+    /// Applies the matrix to the distinct qubits `q0` and `q1`. Each row of the matrix has at most one entry other than
+    /// Zero, so that no coefficient's magnitude grows: it is never Wide.
+    pub fn apply2(&mut self, m: &Mat4, q0: u32, q1: u32) -> Result<(), Wide>
+        requires first { q0 < self.old.qubits }
+        requires second { q1 < self.old.qubits }
+        requires apart { q0 ≢ q1 }
+        requires single { IsTrue (are_single m.now.rows) }
+        ensures ok { IsOk result }
+        ensures qubits { self.new.qubits ≡ self.old.qubits }
+        ensures exact { self.new.numbers ≡ applied_list (number_in m.now.rows) (q0 ∷ q1 ∷ []) self.old.numbers }
+        ensures within { All (IsWithin narrow_bits16) self.new.numbers }
+    {
+        change2(&mut self.blocks, self.qubits, q0, q1, self.bits, m);
+        Ok(())
+    }
+
+    /// Becomes the other state, of as many qubits.
+    pub fn copy_from(&mut self, other: &Columns16)
+        requires { self.old.qubits ≡ other.now.qubits }
+        ensures { self.new ≡ other.now }
+    {
+        self.bits = other.bits;
+        copy_onto(&mut self.blocks, &other.blocks);
+    }
+
+    /// The number at an index.
+    pub fn at(&self, index: u32) -> Omega
+        requires { index < 2 ^ self.now.qubits }
+        ensures value { result ≡ at_index self.now.numbers index }
+        ensures within { IsWithin narrow_bits16 result }
+    {
+        number_of(&self.blocks, self.qubits, index)
+    }
+
+    /// The blocks of wider lanes, for which there is memory, become these numbers. Tells their bound.
+    pub(crate) fn widen_onto(&self, wide: &mut Vec<Block<i32x8>>) -> u32
+        requires { 2 ^ (self.now.qubits - places32) ≤ vec_capacity wide.old }
+        ensures held { AreHeld lanes32 places32 room32 self.now.qubits result wide.new.items }
+        ensures space { vec_capacity wide.old ≤ vec_capacity wide.new }
+        ensures numbers { first_numbers lanes32 places32 self.now.qubits wide.new.items ≡ self.now.numbers }
+    {
+        widen_onto(wide, &self.blocks, self.qubits, self.bits);
+        self.bits
+    }
+}
