@@ -37,12 +37,16 @@ next_told due not_due may_say leases old asked new range granted is same stays n
     subst (λ (r : ℕ). IsNext due not_due may_say leases old new r) (sym is) (elim next [
       | inl fresh ↦ inl fresh
       | inr (inl returned) ↦ inr (inl returned)
-      | inr (inr late) ↦ inr (inr (late.0, late.1, record {
-        known = late.2.known;
-        out = late.2.out;
-        is_due = subst (λ (n : ℕ). Rose (due old) n) (sym same) late.2.is_due;
-        before = subst (λ (n : ℕ). RoseBy (count_out leases range) (not_due old) n) (sym stays) late.2.before;
-        said = late.2.said;
-        lower = late.2.lower;
-      }))
+      | inr (inr late) ↦ inr (inr (
+        late.0,
+        late.1,
+        record {
+          known = late.2.known;
+          out = late.2.out;
+          is_due = subst (λ (n : ℕ). Rose (due old) n) (sym same) late.2.is_due;
+          before = subst (λ (n : ℕ). RoseBy (count_out leases range) (not_due old) n) (sym stays) late.2.before;
+          said = late.2.said;
+          lower = late.2.lower;
+        },
+      ))
     ])

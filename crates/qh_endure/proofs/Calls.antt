@@ -27,7 +27,7 @@ use Rattle.qh_request.specs.Request.{RunIsWhole, EndsWhole, PrintsAsked}
 use Rattle.qh_tell.specs.Stops.{status_of}
 use Rattle.qh_request.specs.Outcomes.{MayStopBy, MayStop, Stops}
 use Rattle.qh_tell.specs.declared.stop.Refusal.{Refusal}
-use Rattle.qh_tell.specs.declared.stop.Refusal.TheVariants.{CircuitTooLong, CircuitLine, BitsTooLong, BitsLine, Plan, ProbTooDeep}
+use Rattle.qh_tell.specs.declared.stop.Refusal.TheVariants.{CircuitTooLong, CircuitLine, BitsTooLong, BitsLine, Plan, ProbTooDeep, NoCut}
 use Rattle.qh_tell.specs.declared.stop.Input.TheVariants.{OfCircuit, OfBits}
 use Rattle.qh_tell.specs.declared.stop.JournalRefusal.{JournalRefusal}
 use Rattle.qh_tell.specs.declared.stop.JournalRefusal.TheVariants.{OfJournal, OfOld}
@@ -79,6 +79,7 @@ refuses_told None o BitsTooLong circuit bits h = h
 refuses_told None o (BitsLine line why) circuit bits h = h
 refuses_told None o (Plan fault) circuit bits h = h
 refuses_told None o (ProbTooDeep weight) circuit bits h = h
+refuses_told None o NoCut circuit bits h = h
 refuses_told (Some size) o r circuit bits h = h
 
 -- ---- the journal, where no old one is taken over
@@ -126,7 +127,7 @@ no_rise : Rose 0 0 → ⊥
 no_rise rose = omega arith
 
 module _ (asked : Option Options) (circuit bits : List ℕ) (l m : Option (List ℕ)) (disk after old old_after : History) (out out_after : Tray) (grants grants_after status : ℕ)
-    (Told : List ℕ → Type 0)
+    (Told : Stop → Type 0)
     (own : (o : Options) → asked ≡ Some o → KeepsOwnJournal o)
     (made : IsMadeNow asked circuit bits (face_of disk))
     (usage : asked ≡ None → (status ≡ 1) ⊎ (status ≡ 7))

@@ -17,7 +17,7 @@ use qh_top::qsimh_alone;
 use std::alloc::{AllocError, Global};
 
 /// No message of a run is longer.
-const MESSAGE_ROOM: usize = 256;
+const MESSAGE_ROOM: usize = 2048;
 
 /// Runs the request of the words over the two texts once for each round, with the crash of each round but the last behind its run, and answers the last
 /// status.

@@ -1,6 +1,6 @@
 -- What causes exclude and give.
 use Rattle.std.proofs.Common.{◌≡◌, ℕ, ◌^◌, ◌<◌, ◌≤◌, ◌≢◌, ◌⊎◌, inl, inr, List, ◌++◌, length, map, Bool, true, false, Some, None, Ok, Err, Result, IfSome, IsSomeAnd, refl, sym, ap, subst, ◌∙◌, arith, append-nil}
-use Rattle.std.proofs.lemmas.Bool.{false≢true}
+use Rattle.std.proofs.lemmas.Bool.{false≢true, cases_lt}
 use Rattle.std.proofs.lemmas.List.{ext_get_or}
 use Rattle.std.specs.declared.option.Option.{Option}
 use Rattle.qh_gates.specs.Circuits.{Circuit, total_weight}
@@ -19,12 +19,15 @@ use Rattle.qh_words.specs.declared.options.Options.{Options}
 use Rattle.qh_words.specs.declared.size.GenSize.{GenSize}
 use Rattle.qh_tell.specs.Seen.{Seen, Rises}
 use Rattle.qh_request.specs.Inputs.{IsCircuitFile, IsBitsFile, IsRead, IsGenerated, IsInput, HasInput, first_indices}
+use Rattle.qh_planner.specs.Cuts.{Asked, cost, first_qubits}
+use Rattle.qh_planner.specs.Choice.{IsBestCut}
+use Rattle.qh_request.specs.Chosen.{is_auto, asks_auto, cut_asked, IsPartBy, NoneAllowed, HasNoCut}
 use Rattle.qh_request.specs.Answer.{IsWholeAnswer, IsAnswerBy}
 use Rattle.qh_request.specs.Jobs.{IsPlannedJob, Takes, keeping}
 use Rattle.qh_plan.specs.declared.verdict.Verdict.TheVariants.{Over}
-use Rattle.qh_request.specs.Refusals.{PlanRefusesBy, PlanRefuses, IsTooDeep, CircuitRefuses, FilesHold, FilesRefuse, SizeRefuses, RefusesBy, Refuses, FilesReading, ReadingBy, Reading, SourceRises, RefusesAll, IsOfWords}
+use Rattle.qh_request.specs.Refusals.{PartRefuses, PlanRefusesBy, PlanRefuses, IsTooDeep, CircuitRefuses, FilesHold, FilesRefuse, SizeRefuses, RefusesBy, Refuses, FilesReading, ReadingBy, Reading, SourceRises, RefusesAll, IsOfWords}
 use Rattle.qh_tell.specs.declared.stop.Refusal.{Refusal}
-use Rattle.qh_tell.specs.declared.stop.Refusal.TheVariants.{CircuitTooLong, CircuitLine, BitsTooLong, BitsLine, Plan, ProbTooDeep}
+use Rattle.qh_tell.specs.declared.stop.Refusal.TheVariants.{CircuitTooLong, CircuitLine, BitsTooLong, BitsLine, Plan, ProbTooDeep, NoCut}
 use Rattle.qh_tell.specs.declared.stop.Input.TheVariants.{OfCircuit, OfBits}
 use Rattle.qh_tell.specs.declared.stop.Stop.{Stop}
 use Rattle.qh_tell.specs.declared.stop.Stop.TheVariants.{Usage, Refused, OverflowGate, OverflowPath, ReadFault, DiskFault, WriteFault, Memory, Journal}
@@ -93,16 +96,44 @@ no_item_fault items xs (JournalTooLong bytes) a h = h
 no_item_fault items xs (UncutTooWide qubits) a h = h
 no_item_fault items xs PlanMemory a h = h
 
+-- there is one cheapest cut
+one_best : (a : Asked) (m n : ℕ) → IsBestCut a m → IsBestCut a n → m ≡ n
+one_best a m n d e = elim (cases_lt m n) [
+  | inl h ↦ absurd (lower (cost a m) (cost a n) (e.first m d.some_in_one h d.allowed) (e.least m d.some_in_one d.some_in_two d.allowed) (d.least n e.some_in_one e.some_in_two e.allowed))
+  | inr h ↦ elim (cases_lt n m) [
+    | inl k ↦ absurd (lower (cost a n) (cost a m) (d.first n e.some_in_one k e.allowed) (d.least n e.some_in_one e.some_in_two e.allowed) (e.least m d.some_in_one d.some_in_two d.allowed))
+    | inr k ↦ omega (arith, h, k)
+  ]
+]
+  where
+    lower : (x y : ℕ) → y < x → y ≤ x → x ≤ y → ⊥
+    lower x y less some more = omega (arith, less, more)
+
+one_part : (auto : Bool) (o : Options) (part : List ℕ) (c : Circuit) (xs items other : List ℕ) → IsPartBy auto o part c xs items → IsPartBy auto o part c xs other → items ≡ other
+one_part true o part c xs items other d e = d.2 ∙ ap first_qubits (one_best (cut_asked o c xs) d.0 e.0 d.1 e.1) ∙ sym e.2
+one_part false o part c xs items other d e = one_numbers (items_of part) items other d e
+
 -- one job is planned
 pub one_job : (o : Options) (part : List ℕ) (c : Circuit) (xs : List ℕ) (i j : Job) → IsPlannedJob o part c xs i → IsPlannedJob o part c xs j → i ≡ j
-one_job o part c xs i j p q = p.job ∙ ap (λ items. job_of c items o.p o.r o.w xs) (one_numbers (items_of part) p.items q.items p.numbers q.numbers) ∙ sym q.job
+one_job o part c xs i j p q = p.job ∙ ap (λ items. job_of c items o.p o.r o.w xs) (one_part (is_auto part) o part c xs p.items q.items p.part_is q.part_is) ∙ sym q.job
 
 -- what is planned is not refused
+part_not_refused : (auto : Bool) (o : Options) (part : List ℕ) (c : Circuit) (xs items : List ℕ) → IsPartBy auto o part c xs items → first_fault c items o.p o.r o.w xs ≡ None
+    → (fault : PlanFault) → PartRefuses auto part o c xs fault → ⊥
+part_not_refused true o part c xs items is accepted fault h = h
+part_not_refused false o part c xs items is accepted fault (inl h) = no_item_fault (items_of part) items fault is h
+part_not_refused false o part c xs items is accepted fault (inr h) =
+    none_some (first_fault c h.0 o.p o.r o.w xs) fault (ap (λ items. first_fault c items o.p o.r o.w xs) (one_numbers (items_of part) h.0 items h.1 is) ∙ accepted) h.2
+
 pub planned_not_refused : (o : Options) (part : List ℕ) (c : Circuit) (xs : List ℕ) (j : Job) → IsPlannedJob o part c xs j → (fault : PlanFault) → PlanRefusesBy (Some part) o c xs fault → ⊥
-planned_not_refused o part c xs j p fault (inl h) = no_item_fault (items_of part) p.items fault p.numbers h
-planned_not_refused o part c xs j p fault (inr h) =
-    none_some (first_fault c h.0 o.p o.r o.w xs) fault
-    (ap (λ items. first_fault c items o.p o.r o.w xs) (one_numbers (items_of part) h.0 p.items h.1 p.numbers) ∙ p.accepted) h.2
+planned_not_refused o part c xs j p fault h = part_not_refused (is_auto part) o part c xs p.items p.part_is p.accepted fault h
+
+planned_has_cut : (auto : Bool) (o : Options) (part : List ℕ) (c : Circuit) (xs items : List ℕ) → auto ≡ true → IsPartBy auto o part c xs items → NoneAllowed o c xs → ⊥
+planned_has_cut true o part c xs items e is none = none is.0 is.1.some_in_one is.1.some_in_two is.1.allowed
+planned_has_cut false o part c xs items e is none = false≢true e
+
+no_auto : (o : Options) → o.part ≡ None → asks_auto o.part ≡ true → ⊥
+no_auto o e auto = false≢true (sym (ap asks_auto e) ∙ auto)
 
 pub planned_part_not_refused : (o : Options) (part : List ℕ) (c : Circuit) (xs : List ℕ) (j : Job) → o.part ≡ Some part → IsPlannedJob o part c xs j → (r : Refusal) → CircuitRefuses o r c xs → ⊥
 planned_part_not_refused o part c xs j e p CircuitTooLong h = h
@@ -111,6 +142,7 @@ planned_part_not_refused o part c xs j e p BitsTooLong h = h
 planned_part_not_refused o part c xs j e p (BitsLine line why) h = h
 planned_part_not_refused o part c xs j e p (Plan fault) h = planned_not_refused o part c xs j p fault (subst (λ q. PlanRefusesBy q o c xs fault) e h)
 planned_part_not_refused o part c xs j e p (ProbTooDeep weight) h = none_some o.part part h.uncut e
+planned_part_not_refused o part c xs j e p NoCut h = planned_has_cut (is_auto part) o part c xs p.items (sym (ap asks_auto e) ∙ h.auto) p.part_is h.none
 
 narrow_not_refused : (o : Options) (c : Circuit) (xs : List ℕ) → c.qubits ≤ 16 → (fault : PlanFault) → PlanRefusesBy None o c xs fault → ⊥
 narrow_not_refused o c xs l fault h = too_long c.qubits 16 l h.1
@@ -123,6 +155,7 @@ amplitudes_not_refused o c xs e off l BitsTooLong h = h
 amplitudes_not_refused o c xs e off l (BitsLine line why) h = h
 amplitudes_not_refused o c xs e off l (Plan fault) h = narrow_not_refused o c xs l fault (subst (λ q. PlanRefusesBy q o c xs fault) e h)
 amplitudes_not_refused o c xs e off l (ProbTooDeep weight) h = false≢true (sym off ∙ h.asked)
+amplitudes_not_refused o c xs e off l NoCut h = no_auto o e h.auto
 
 -- nor one whose weight is at most 120
 pub shallow_not_refused : (o : Options) (c : Circuit) (xs : List ℕ) → o.part ≡ None → c.qubits ≤ 16 → total_weight c.gates ≤ 120 → (r : Refusal) → CircuitRefuses o r c xs → ⊥
@@ -132,6 +165,7 @@ shallow_not_refused o c xs e l low BitsTooLong h = h
 shallow_not_refused o c xs e l low (BitsLine line why) h = h
 shallow_not_refused o c xs e l low (Plan fault) h = narrow_not_refused o c xs l fault (subst (λ q. PlanRefusesBy q o c xs fault) e h)
 shallow_not_refused o c xs e l low (ProbTooDeep weight) h = too_long weight 120 (subst (λ n. n ≤ 120) (sym h.weight_is) low) h.deep
+shallow_not_refused o c xs e l low NoCut h = no_auto o e h.auto
 
 whole_not_refused : (prob : Bool) (o : Options) (c : Circuit) (xs : List ℕ) (strings : List (List ℕ)) (text : List ℕ) → o.prob ≡ prob → o.part ≡ None
     → IsWholeAnswer prob o.generated c strings text → (r : Refusal) → CircuitRefuses o r c xs → ⊥
@@ -152,20 +186,20 @@ printed_not_refused o circuit bits out after front p r h =
     answered_not_refused o.part o after p.value p.indices _ p.text refl (asked_indices o.max_time circuit bits p.value p.indices o.generated p.input) p.answer r h
 
 -- the stop of a plan's fault
-pub plan_stops : (P : PlanFault → Type 0) (fault : PlanFault) → (fault ≢ PlanMemory → P fault) → PlanMayStop P (stop_of fault)
-plan_stops P (PartText item) h = h (λ e. cc)
-plan_stops P (NoSuchQubit qubit) h = h (λ e. cc)
-plan_stops P (QubitTwice qubit) h = h (λ e. cc)
-plan_stops P EmptyPart h = h (λ e. cc)
-plan_stops P (PartTooWide qubits) h = h (λ e. cc)
-plan_stops P (TooManyCrossing count) h = h (λ e. cc)
-plan_stops P (TooManyPaths log2) h = h (λ e. cc)
-plan_stops P (PrefixRoot crossing) h = h (λ e. cc)
-plan_stops P (PrefixValue prefixes) h = h (λ e. cc)
-plan_stops P (TooManyRanges ranges) h = h (λ e. cc)
-plan_stops P (JournalTooLong bytes) h = h (λ e. cc)
-plan_stops P (UncutTooWide qubits) h = h (λ e. cc)
-plan_stops P PlanMemory h = tt
+pub plan_stops : (P : PlanFault → Type 0) (none : Type 0) (fault : PlanFault) → (fault ≢ PlanMemory → P fault) → PlanMayStop P none (stop_of fault)
+plan_stops P none (PartText item) h = h (λ e. cc)
+plan_stops P none (NoSuchQubit qubit) h = h (λ e. cc)
+plan_stops P none (QubitTwice qubit) h = h (λ e. cc)
+plan_stops P none EmptyPart h = h (λ e. cc)
+plan_stops P none (PartTooWide qubits) h = h (λ e. cc)
+plan_stops P none (TooManyCrossing count) h = h (λ e. cc)
+plan_stops P none (TooManyPaths log2) h = h (λ e. cc)
+plan_stops P none (PrefixRoot crossing) h = h (λ e. cc)
+plan_stops P none (PrefixValue prefixes) h = h (λ e. cc)
+plan_stops P none (TooManyRanges ranges) h = h (λ e. cc)
+plan_stops P none (JournalTooLong bytes) h = h (λ e. cc)
+plan_stops P none (UncutTooWide qubits) h = h (λ e. cc)
+plan_stops P none PlanMemory h = tt
 
 -- ---- an input that was taken is not refused where its circuit is not
 module _ (o : Options) (circuit bits : Seen) where
@@ -194,6 +228,7 @@ module _ (o : Options) (circuit bits : Seen) where
       bits_clash _ _ _ (sym (ap (λ (c : Circuit). bits_of c.qubits a.bits_bytes) same) ∙ a.bits_file.read) u.1
   files_not_refused c xs a ok (Plan fault) h = ok (Plan fault) (held c xs a (CircuitRefuses o (Plan fault)) h)
   files_not_refused c xs a ok (ProbTooDeep weight) h = ok (ProbTooDeep weight) (held c xs a (CircuitRefuses o (ProbTooDeep weight)) h)
+  files_not_refused c xs a ok NoCut h = ok NoCut (held c xs a (CircuitRefuses o NoCut) h)
 
   size_not_refused : (size : GenSize) (c : Circuit) (xs : List ℕ) → IsGenerated size c xs → ((r : Refusal) → CircuitRefuses o r c xs → ⊥) → (r : Refusal) → SizeRefuses o size r → ⊥
   size_not_refused size c xs a ok r h =
@@ -212,6 +247,7 @@ files_refuse o circuit bits BitsTooLong h = h
 files_refuse o circuit bits (BitsLine line why) h = h
 files_refuse o circuit bits (Plan fault) h = absurd h
 files_refuse o circuit bits (ProbTooDeep weight) h = absurd h
+files_refuse o circuit bits NoCut h = absurd h
 
 files_words : (o : Options) (circuit bits : Seen) (r : Refusal) → o.generated ≡ None → FilesMayStop o.max_time circuit bits (Refused r) → IsOfWords o r
 files_words o circuit bits CircuitTooLong e h = e
@@ -220,6 +256,7 @@ files_words o circuit bits BitsTooLong e h = e
 files_words o circuit bits (BitsLine line why) e h = e
 files_words o circuit bits (Plan fault) e h = absurd h
 files_words o circuit bits (ProbTooDeep weight) e h = absurd h
+files_words o circuit bits NoCut e h = absurd h
 
 pub input_cause : (o : Options) (circuit bits out : Seen) (disk after old old_after : Face) (g : Option GenSize) → o.generated ≡ g → (stop : Stop) → InputMayStop g o.max_time circuit bits stop → MayStopBy o circuit bits out disk after old old_after stop
 input_cause o circuit bits out disk after old old_after None e Usage h = absurd h
@@ -253,6 +290,15 @@ deep_refused : (o : Options) (circuit bits : Seen) (g : Option GenSize) (c : Cir
     → RefusesBy g (λ known P. IfSome known P) o (ProbTooDeep weight) circuit.before bits.before
 deep_refused o circuit bits None c xs a weight h = files_hold o.max_time circuit bits c xs a (CircuitRefuses o (ProbTooDeep weight)) h
 deep_refused o circuit bits (Some size) c xs a weight h = size_refuses o size c xs a (ProbTooDeep weight) h
+
+no_cut_refused : (o : Options) (circuit bits : Seen) (g : Option GenSize) (c : Circuit) (xs : List ℕ) → IsInput g o.max_time circuit bits c xs → HasNoCut o c xs
+    → RefusesBy g (λ known P. IfSome known P) o NoCut circuit.before bits.before
+no_cut_refused o circuit bits None c xs a h = files_hold o.max_time circuit bits c xs a (CircuitRefuses o NoCut) h
+no_cut_refused o circuit bits (Some size) c xs a h = size_refuses o size c xs a NoCut h
+
+no_cut_cause : (o : Options) (circuit bits : Seen) (c : Circuit) (xs : List ℕ) → IsInput o.generated o.max_time circuit bits c xs → HasNoCut o c xs
+    → IsOfWords o NoCut × Refuses (λ known P. IfSome known P) o NoCut circuit.before bits.before
+no_cut_cause o circuit bits c xs a h = (h.auto, no_cut_refused o circuit bits o.generated c xs a h)
 
 plan_cause : (o : Options) (circuit bits : Seen) (c : Circuit) (xs : List ℕ) → IsInput o.generated o.max_time circuit bits c xs → (fault : PlanFault) → PlanRefuses o c xs fault
     → IsOfWords o (Plan fault) × Refuses (λ known P. IfSome known P) o (Plan fault) circuit.before bits.before
@@ -291,6 +337,7 @@ uncut_cause o circuit bits out disk after old old_after c xs a e (Refused (Plan 
     plan_cause o circuit bits c xs a fault (subst (λ p. PlanRefusesBy p o c xs fault) (sym e) h)
 uncut_cause o circuit bits out disk after old old_after c xs a e (Refused (ProbTooDeep weight)) h =
     deep_cause o circuit bits c xs a weight (record { asked = h.0; uncut = e; narrow = h.1; weight_is = h.2; deep = h.3 })
+uncut_cause o circuit bits out disk after old old_after c xs a e (Refused NoCut) h = absurd h
 uncut_cause o circuit bits out disk after old old_after c xs a e (OverflowGate gate) h =
     record { value = c; indices = xs; input = a; uncut = e; amplitudes = h.0; narrow = h.1; over = h.2 }
 uncut_cause o circuit bits out disk after old old_after c xs a e (OverflowPath path) h = absurd h
@@ -311,6 +358,8 @@ cut_cause o circuit bits out disk after old old_after Granted c xs a part e (Ref
 cut_cause o circuit bits out disk after old old_after Granted c xs a part e (Refused (Plan fault)) h =
     plan_cause o circuit bits c xs a fault (subst (λ p. PlanRefusesBy p o c xs fault) (sym e) h)
 cut_cause o circuit bits out disk after old old_after Granted c xs a part e (Refused (ProbTooDeep weight)) h = absurd h.stops
+cut_cause o circuit bits out disk after old old_after Granted c xs a part e (Refused NoCut) h =
+    no_cut_cause o circuit bits c xs a (record { auto = ap asks_auto e ∙ h.0; none = h.1 })
 cut_cause o circuit bits out disk after old old_after Granted c xs a part e (OverflowGate gate) h = absurd h.stops
 cut_cause o circuit bits out disk after old old_after Granted c xs a part e (OverflowPath path) h =
     overflows o circuit bits disk after old Granted path h.job (taken_job o circuit bits c xs a part e h.job h.planned) h.stops
@@ -334,6 +383,7 @@ reading_circuit circuit bits BitsTooLong rose = inl rose
 reading_circuit circuit bits (BitsLine line why) rose = inl rose
 reading_circuit circuit bits (Plan fault) rose = inl rose
 reading_circuit circuit bits (ProbTooDeep weight) rose = inl rose
+reading_circuit circuit bits NoCut rose = inl rose
 
 both : (o : Option (List ℕ)) (P Q : List ℕ → Type 0) (R : Type 0) → IfSome o P → IsSomeAnd o Q → ((xs : List ℕ) → P xs → Q xs → R) → R
 both None P Q R p q f = absurd q
@@ -349,6 +399,7 @@ reading_bits o circuit bits BitsTooLong rose any h = inr rose
 reading_bits o circuit bits (BitsLine line why) rose any h = inr rose
 reading_bits o circuit bits (Plan fault) rose any h = inr rose
 reading_bits o circuit bits (ProbTooDeep weight) rose any h = inr rose
+reading_bits o circuit bits NoCut rose any h = inr rose
 
 read_fault : (o : Options) (circuit bits : Seen) (status : ℕ) (g : Option GenSize) → o.generated ≡ g → status ≡ 4 → o.generated ≡ None → (r : Refusal)
     → (FilesRefuse (λ known P. IsSomeAnd known P) o r circuit.before bits.before → FilesReading circuit bits r)
@@ -429,6 +480,7 @@ accepted_not_refused o (Some cb) (Some bb) None c xs a ok (BitsLine line why) h 
 accepted_not_refused o (Some cb) (Some bb) None c xs a ok (Plan fault) h = ok (Plan fault) (accepted_held o.max_time cb bb c xs a.0 a.1 (CircuitRefuses o (Plan fault)) h)
 accepted_not_refused o (Some cb) (Some bb) None c xs a ok (ProbTooDeep weight) h =
     ok (ProbTooDeep weight) (accepted_held o.max_time cb bb c xs a.0 a.1 (CircuitRefuses o (ProbTooDeep weight)) h)
+accepted_not_refused o (Some cb) (Some bb) None c xs a ok NoCut h = ok NoCut (accepted_held o.max_time cb bb c xs a.0 a.1 (CircuitRefuses o NoCut) h)
 accepted_not_refused o circuit bits (Some size) c xs a ok r h =
     ok r (subst (λ ys. CircuitRefuses o r c ys) (sym a.indices) (subst (λ d. CircuitRefuses o r d (first_indices d.qubits)) (sym a.circuit) h))
 

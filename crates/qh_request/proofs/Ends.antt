@@ -19,7 +19,7 @@ use Rattle.qh_request.specs.Parts.{Ended}
 use Rattle.qh_tell.specs.Stops.{status_of}
 use Rattle.qh_request.specs.Outcomes.{MayStopBy, MayStop, Stops}
 use Rattle.qh_tell.specs.declared.stop.Refusal.{Refusal}
-use Rattle.qh_tell.specs.declared.stop.Refusal.TheVariants.{CircuitTooLong, CircuitLine, BitsTooLong, BitsLine, Plan, ProbTooDeep}
+use Rattle.qh_tell.specs.declared.stop.Refusal.TheVariants.{CircuitTooLong, CircuitLine, BitsTooLong, BitsLine, Plan, ProbTooDeep, NoCut}
 use Rattle.qh_tell.specs.declared.stop.JournalRefusal.{JournalRefusal}
 use Rattle.qh_tell.specs.declared.stop.Input.TheVariants.{OfCircuit, OfBits}
 use Rattle.qh_tell.specs.declared.stop.Stop.{Stop}
@@ -43,7 +43,7 @@ How o circuit bits out disk after old old_after status =
     ((status ≡ 0) × Prints o circuit bits out after (λ text. text))
     ⊎ ((stop : Stop) × (status ≡ status_of stop) × MayStopBy o circuit bits out disk after old old_after stop)
 
-module _ (asked : Option Options) (circuit bits out : Seen) (disk after old old_after : Face) (status : ℕ) (Told : List ℕ → Type 0)
+module _ (asked : Option Options) (circuit bits out : Seen) (disk after old old_after : Face) (status : ℕ) (Told : Stop → Type 0)
     (printed : status ≡ 0 → IsSomeAnd asked (λ o. Prints o circuit bits out after (λ text. text)))
     (stopped : status ≢ 0 → Stops status (MayStop asked circuit bits out disk after old old_after) Told) where
   pub how : (o : Options) → asked ≡ Some o → How o circuit bits out disk after old old_after status
@@ -242,6 +242,7 @@ files_rose circuit bits BitsTooLong none h = none h
 files_rose circuit bits (BitsLine line why) none h = none h
 files_rose circuit bits (Plan fault) none h = none h
 files_rose circuit bits (ProbTooDeep weight) none h = none h
+files_rose circuit bits NoCut none h = none h
 
 none_rose : (g : Option GenSize) (circuit bits : Seen) (r : Refusal) → (SourceRises g circuit bits → ⊥) → ReadingBy g circuit bits r → ⊥
 none_rose None circuit bits r none h = files_rose circuit bits r none h
@@ -262,7 +263,7 @@ pub no_first_fault : (o : Options) (circuit bits out : Seen) (disk after old old
 no_first_fault o circuit bits out disk after old old_after status none (inl f) = none (inl f.1)
 no_first_fault o circuit bits out disk after old old_after status none (inr f) = none (inr (inr f.1))
 
-module _ (asked : Option Options) (circuit bits out : Seen) (disk after old old_after : Face) (Granted : ℕ → Type 0) (status : ℕ) (Told : List ℕ → Type 0)
+module _ (asked : Option Options) (circuit bits out : Seen) (disk after old old_after : Face) (Granted : ℕ → Type 0) (status : ℕ) (Told : Stop → Type 0)
     (printed : status ≡ 0 → IsSomeAnd asked (λ o. Prints o circuit bits out after (λ text. text)))
     (stopped : status ≢ 0 → Stops status (MayStop asked circuit bits out disk after old old_after) Told)
     (ended : IfSome asked (λ o. Ended o circuit bits out disk after old Granted status)) where

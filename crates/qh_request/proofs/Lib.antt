@@ -7,5 +7,6 @@ pub mod Inputs
 pub mod Journals
 pub mod Ends
 pub mod Runs
+pub mod Tables
 mod Unique
-mod FirstIndices
+pub mod FirstIndices

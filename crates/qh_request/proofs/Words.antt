@@ -11,7 +11,8 @@ use Rattle.qh_plan.specs.Plans.{first_fault, job_of, item_fault, width_fault, pa
 use Rattle.qh_plan.specs.Texts.{journal_length}
 use Rattle.qh_plan.specs.declared.fault.PlanFault.{PlanFault}
 use Rattle.qh_words.specs.declared.options.Options.{Options}
-use Rattle.qh_request.specs.Refusals.{PlanRefusesBy, IsOfSplit, IsOfCut}
+use Rattle.qh_request.specs.Refusals.{PartRefuses, PlanRefusesBy, IsOfSplit, IsOfPart, IsOfCut}
+use Rattle.qh_request.specs.Chosen.{is_auto}
 
 either : (P : PlanFault → Type 0) (a b : Option PlanFault) → IfSome a P → IfSome b P → IfSome (or_else a b) P
 either P None b h k = k
@@ -74,7 +75,11 @@ there (Some g) f P e h = subst P (same g f e) h
     same : (g f : PlanFault) → ◌≡◌ {A = Option PlanFault} (Some g) (Some f) → g ≡ f
     same g f e = cc
 
+words_of_part : (auto : Bool) (part : List ℕ) (o : Options) (c : Circuit) (xs : List ℕ) (fault : PlanFault) → PartRefuses auto part o c xs fault → IsOfPart auto part o fault
+words_of_part true part o c xs fault h = h
+words_of_part false part o c xs fault (inl h) = inl h
+words_of_part false part o c xs fault (inr h) = inr (h.0, h.1, there (first_fault c h.0 o.p o.r o.w xs) fault (IsOfSplit o.p o.r o.w) h.2 (of_first o.p o.r o.w c h.0 xs))
+
 pub words_of_plan : (part : Option (List ℕ)) (o : Options) (c : Circuit) (xs : List ℕ) (fault : PlanFault) → PlanRefusesBy part o c xs fault → IsOfCut part o fault
 words_of_plan None o c xs fault h = (c.qubits, h.0)
-words_of_plan (Some part) o c xs fault (inl h) = inl h
-words_of_plan (Some part) o c xs fault (inr h) = inr (h.0, h.1, there (first_fault c h.0 o.p o.r o.w xs) fault (IsOfSplit o.p o.r o.w) h.2 (of_first o.p o.r o.w c h.0 xs))
+words_of_plan (Some part) o c xs fault h = words_of_part (is_auto part) part o c xs fault h

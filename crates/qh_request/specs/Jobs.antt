@@ -3,7 +3,6 @@ use Rattle.std.specs.Prelude.{◌≡◌, ℕ, List, Option, Some, None, map, is_
 use Rattle.std.specs.declared.string.String.{String}
 use Rattle.qh_text.specs.Bitstrings.{bits_text}
 use Rattle.qh_gates.specs.Circuits.{Circuit}
-use Rattle.qh_plan.specs.Items.{items_of, AreNumbers}
 use Rattle.qh_plan.specs.Jobs.{Job}
 use Rattle.qh_plan.specs.Plans.{first_fault, job_of}
 use Rattle.qh_record.specs.Record.{Keeping}
@@ -11,6 +10,7 @@ use Rattle.qh_words.specs.Request.{options_of}
 use Rattle.qh_words.specs.declared.options.Options.{Options}
 use Rattle.qh_tell.specs.Seen.{Seen}
 use Rattle.qh_request.specs.Inputs.{IsInput, HasInput}
+use Rattle.qh_request.specs.Chosen.{IsPart}
 
 -- what the words ask for; none where they are no request
 abbrev pub request : {Z : Type 0} → List (String Z) → Option Options
@@ -23,7 +23,7 @@ keeping o = record { kept = is_some o.journal; fresh = o.fresh; taking = is_some
 -- the job that a part 1 and the options plan
 pub record IsPlannedJob (o : Options) (part : List ℕ) (c : Circuit) (xs : List ℕ) (j : Job) : Type 0 where
   pub items : List ℕ
-  pub numbers : AreNumbers (items_of part) items
+  pub part_is : IsPart o part c xs items
   pub accepted : first_fault c items o.p o.r o.w xs ≡ None
   pub job : j ≡ job_of c items o.p o.r o.w xs
 

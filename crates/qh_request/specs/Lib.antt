@@ -1,6 +1,7 @@
 -- The definitions that the contract of the top call cites.
 pub mod Inputs
 pub mod Lines
+pub mod Chosen
 pub mod Jobs
 pub mod Answer
 pub mod Indexed

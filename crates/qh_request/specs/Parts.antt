@@ -15,11 +15,12 @@ use Rattle.qh_record.specs.Keeps.{KeepsJournal}
 use Rattle.qh_words.specs.declared.options.Options.{Options}
 use Rattle.qh_words.specs.declared.size.GenSize.{GenSize}
 use Rattle.qh_tell.specs.Seen.{Seen, Rises}
+use Rattle.qh_request.specs.Chosen.{is_auto, NoneAllowed}
 use Rattle.qh_request.specs.Inputs.{IsCircuitFile, IsFaultyCircuit, AreFaultyBits}
 use Rattle.qh_request.specs.Jobs.{IsPlannedJob, Takes, keeping}
 use Rattle.qh_request.specs.Refusals.{PlanRefusesBy, JournalRefuses, DisksRise}
 use Rattle.qh_request.specs.Request.{IsRun, RunIsWhole, EndsWholeBy}
-use Rattle.qh_tell.specs.declared.stop.Refusal.TheVariants.{CircuitTooLong, CircuitLine, BitsTooLong, BitsLine, Plan, ProbTooDeep}
+use Rattle.qh_tell.specs.declared.stop.Refusal.TheVariants.{CircuitTooLong, CircuitLine, BitsTooLong, BitsLine, Plan, ProbTooDeep, NoCut}
 use Rattle.qh_tell.specs.declared.stop.Input.TheVariants.{OfCircuit, OfBits}
 use Rattle.qh_tell.specs.declared.stop.Stop.{Stop}
 use Rattle.qh_tell.specs.declared.stop.Stop.TheVariants.{Refused, OverflowGate, OverflowPath, ReadFault, DiskFault, Memory, Journal}
@@ -64,11 +65,12 @@ UncutMayStop prob c (OverflowGate gate) = (prob ≡ false) × (c.qubits ≤ max_
 UncutMayStop prob c Memory = Unit {0}
 UncutMayStop prob c _ = ⊥
 
--- one that plans a job, where P says which refusals hold
-abbrev pub PlanMayStop : (PlanFault → Type 0) → Stop → Type 0
-PlanMayStop P (Refused (Plan fault)) = P fault
-PlanMayStop P Memory = Unit {0}
-PlanMayStop P _ = ⊥
+-- one that plans a job, where P says which refusals hold, and whether no cut is allowed
+abbrev pub PlanMayStop : (PlanFault → Type 0) → Type 0 → Stop → Type 0
+PlanMayStop P none (Refused (Plan fault)) = P fault
+PlanMayStop P none (Refused NoCut) = none
+PlanMayStop P none Memory = Unit {0}
+PlanMayStop P none _ = ⊥
 
 -- one that runs a job: its answer is over, or a disk failed, or a journal is refused, which leaves it as it was where it is not to be emptied
 abbrev pub JobMayStop : Keeping → Job → Face → Face → Face → Face → (ℕ → Type 0) → Stop → Type 0
@@ -87,6 +89,7 @@ pub record PlannedMayStop (o : Options) (part : List ℕ) (c : Circuit) (xs : Li
 
 abbrev pub CutMayStop : Options → List ℕ → Circuit → List ℕ → Face → Face → Face → Face → (ℕ → Type 0) → Stop → Type 0
 CutMayStop o part c xs disk after old old_after Granted (Refused (Plan fault)) = PlanRefusesBy (Some part) o c xs fault
+CutMayStop o part c xs disk after old old_after Granted (Refused NoCut) = (is_auto part ≡ true) × NoneAllowed o c xs
 CutMayStop o part c xs disk after old old_after Granted Memory = Unit {0}
 CutMayStop o part c xs disk after old old_after Granted stop = PlannedMayStop o part c xs disk after old old_after Granted stop
 

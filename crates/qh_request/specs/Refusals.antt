@@ -1,5 +1,5 @@
 -- When a request is refused.
-use Rattle.std.specs.Prelude.{◌≡◌, ℕ, ◌+◌, ◌<◌, ◌≤◌, ◌⊎◌, List, length, true, Option, Some, None, IsSome}
+use Rattle.std.specs.Prelude.{◌≡◌, ℕ, ◌+◌, ◌<◌, ◌≤◌, ◌⊎◌, List, length, Bool, true, false, Option, Some, None, IsSome}
 use Rattle.qh_limits.specs.Limits.{max_uncut_qubits, max_weight, max_circuit_bytes, max_bits_bytes}
 use Rattle.qh_gates.specs.Circuits.{Circuit, total_weight}
 use Rattle.qh_plan.specs.Items.{items_of, AreNumbers, IsItemFault}
@@ -15,17 +15,23 @@ use Rattle.qh_migrate.specs.Faults.{attach_of}
 use Rattle.qh_words.specs.declared.options.Options.{Options}
 use Rattle.qh_words.specs.declared.size.GenSize.{GenSize}
 use Rattle.qh_tell.specs.Seen.{Seen, Rises}
+use Rattle.qh_request.specs.Chosen.{is_auto, asks_auto, HasNoCut}
 use Rattle.qh_request.specs.Inputs.{IsCircuitFile, IsBitsFile, IsFaultyCircuit, AreFaultyBits, circuit_by, first_indices}
 use Rattle.qh_tell.specs.declared.stop.JournalRefusal.{JournalRefusal}
 use Rattle.qh_tell.specs.declared.stop.JournalRefusal.TheVariants.{OfJournal, OfOld}
 use Rattle.qh_tell.specs.declared.stop.Refusal.{Refusal}
-use Rattle.qh_tell.specs.declared.stop.Refusal.TheVariants.{CircuitTooLong, CircuitLine, BitsTooLong, BitsLine, Plan, ProbTooDeep}
+use Rattle.qh_tell.specs.declared.stop.Refusal.TheVariants.{CircuitTooLong, CircuitLine, BitsTooLong, BitsLine, Plan, ProbTooDeep, NoCut}
 
--- Without a cut the circuit is too wide; with one the text of part 1 is faulty, or else the plan has this first fault.
+-- The text of part 1 is faulty, or else the plan has this first fault. The cheapest cut is an allowed one.
+abbrev pub PartRefuses : Bool → List ℕ → Options → Circuit → List ℕ → PlanFault → Type 0
+PartRefuses true part o c xs fault = ⊥
+PartRefuses false part o c xs fault =
+    IsItemFault (items_of part) fault ⊎ ((items : List ℕ) × AreNumbers (items_of part) items × (first_fault c items o.p o.r o.w xs ≡ Some fault))
+
+-- Without a cut the circuit is too wide; with one part 1 or its plan is refused.
 abbrev pub PlanRefusesBy : Option (List ℕ) → Options → Circuit → List ℕ → PlanFault → Type 0
 PlanRefusesBy None o c xs fault = (fault ≡ Wide c.qubits) × (max_uncut_qubits < c.qubits)
-PlanRefusesBy (Some part) o c xs fault =
-    IsItemFault (items_of part) fault ⊎ ((items : List ℕ) × AreNumbers (items_of part) items × (first_fault c items o.p o.r o.w xs ≡ Some fault))
+PlanRefusesBy (Some part) o c xs fault = PartRefuses (is_auto part) part o c xs fault
 
 abbrev pub PlanRefuses : Options → Circuit → List ℕ → PlanFault → Type 0
 PlanRefuses o c xs fault = PlanRefusesBy o.part o c xs fault
@@ -42,6 +48,7 @@ pub record IsTooDeep (o : Options) (c : Circuit) (weight : ℕ) : Type 0 where
 abbrev pub CircuitRefuses : Options → Refusal → Circuit → List ℕ → Type 0
 CircuitRefuses o (Plan fault) c xs = PlanRefuses o c xs fault
 CircuitRefuses o (ProbTooDeep weight) c xs = IsTooDeep o c weight
+CircuitRefuses o NoCut c xs = HasNoCut o c xs
 CircuitRefuses o _ c xs = ⊥
 
 -- Both files are accepted, and P holds of what they hold. Told says what is claimed of a source's content: IfSome claims nothing where it is not told, and
@@ -57,6 +64,7 @@ FilesRefuse Told o BitsTooLong circuit bits = Told circuit (λ text. (c : Circui
 FilesRefuse Told o (BitsLine line why) circuit bits = Told circuit (λ text. (c : Circuit) × IsCircuitFile o.max_time c text × Told bits (AreFaultyBits c line why))
 FilesRefuse Told o (Plan fault) circuit bits = FilesHold Told o.max_time (CircuitRefuses o (Plan fault)) circuit bits
 FilesRefuse Told o (ProbTooDeep weight) circuit bits = FilesHold Told o.max_time (CircuitRefuses o (ProbTooDeep weight)) circuit bits
+FilesRefuse Told o NoCut circuit bits = FilesHold Told o.max_time (CircuitRefuses o NoCut) circuit bits
 
 -- a refusal of a generated circuit
 abbrev pub SizeRefuses : Options → GenSize → Refusal → Type 0
@@ -102,16 +110,22 @@ IsOfSplit p r w (PrefixRoot crossing) = 0 < p + r
 IsOfSplit p r w (PrefixValue prefixes) = IsSome w
 IsOfSplit p r w fault = Unit {0}
 
--- Without a cut the circuit is too wide; with one the text of part 1 is faulty, or else a list of numbers.
+-- The text of part 1 is faulty, or else a list of numbers.
+abbrev pub IsOfPart : Bool → List ℕ → Options → PlanFault → Type 0
+IsOfPart true part o fault = ⊥
+IsOfPart false part o fault =
+    IsItemFault (items_of part) fault ⊎ ((items : List ℕ) × AreNumbers (items_of part) items × IsOfSplit o.p o.r o.w fault)
+
+-- Without a cut the circuit is too wide; with one the refusal is of its part 1 or of its split.
 abbrev pub IsOfCut : Option (List ℕ) → Options → PlanFault → Type 0
 IsOfCut None o fault = (qubits : ℕ) × (fault ≡ Wide qubits)
-IsOfCut (Some part) o fault =
-    IsItemFault (items_of part) fault ⊎ ((items : List ℕ) × AreNumbers (items_of part) items × IsOfSplit o.p o.r o.w fault)
+IsOfCut (Some part) o fault = IsOfPart (is_auto part) part o fault
 
 -- what a refusal says of the words: the plan's of the cut, a circuit too deep that probabilities are asked, and any other that the texts are files
 abbrev pub IsOfWords : Options → Refusal → Type 0
 IsOfWords o (Plan fault) = IsOfCut o.part o fault
 IsOfWords o (ProbTooDeep weight) = (o.prob ≡ true) × (o.part ≡ None)
+IsOfWords o NoCut = asks_auto o.part ≡ true
 IsOfWords o r = o.generated ≡ None
 
 -- ---- the journals

@@ -1,5 +1,5 @@
 //! Laws between the definitions, each the contract of a call that does nothing.
-ghost use Rattle.std.specs.Prelude.{◌≡◌, ℕ, List, Some, IsSome};
+ghost use Rattle.std.specs.Prelude.{◌≡◌, ◌≢◌, ℕ, List, Some, IsSome, codes};
 ghost use Rattle.qh_gates.specs.Circuits.{Circuit as CircuitValue};
 ghost use Rattle.qh_plan.specs.Items.{items_of, IsFirstBad};
 ghost use Rattle.qh_words.specs.declared.options.Options.{Options as OptionsValue};
@@ -14,7 +14,8 @@ pub fn one_answer<D: Disk>(after: &D)
         → IsAnswer o (D.face after.now) c strings s → IsAnswer o (D.face after.now) c strings t → s ≡ t }
 {}
 
-/// A text of part 1 that is no list of numbers is refused, whatever the circuit and the bitstrings.
+/// A text of part 1 that is no list of numbers, and does not ask for the cheapest cut, is refused, whatever the circuit and
+/// the bitstrings.
 pub fn bad_part_is_refused()
-    ensures { (o : OptionsValue) (part : List ℕ) (item : ℕ) → o.part ≡ Some part → IsFirstBad (items_of part) item → RefusesAll o }
+    ensures { (o : OptionsValue) (part : List ℕ) (item : ℕ) → o.part ≡ Some part → part ≢ codes "auto" → IsFirstBad (items_of part) item → RefusesAll o }
 {}

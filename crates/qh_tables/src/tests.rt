@@ -1,4 +1,5 @@
 //! Worked rows: each has the words, the two texts, the calls that fail, and the status, output and message that follow.
+mod cheapest;
 mod probs;
 mod workers;
 

@@ -13,7 +13,7 @@ use Rattle.qh_slots.specs.declared.fault.AttachFault.TheVariants.{DiskFault as A
 use Rattle.qh_migrate.specs.Faults.{attach_of}
 use Rattle.qh_tell.specs.Seen.{Seen, Rises}
 use Rattle.qh_tell.specs.declared.stop.Refusal.{Refusal}
-use Rattle.qh_tell.specs.declared.stop.Refusal.TheVariants.{CircuitTooLong, CircuitLine, BitsTooLong, BitsLine, Plan, ProbTooDeep}
+use Rattle.qh_tell.specs.declared.stop.Refusal.TheVariants.{CircuitTooLong, CircuitLine, BitsTooLong, BitsLine, Plan, ProbTooDeep, NoCut}
 use Rattle.qh_tell.specs.declared.stop.Input.{Input}
 use Rattle.qh_tell.specs.declared.stop.Input.TheVariants.{OfCircuit, OfBits}
 use Rattle.qh_tell.specs.declared.stop.JournalRefusal.{JournalRefusal}
@@ -63,6 +63,7 @@ refusal_line BitsTooLong = codes "refused: bitstrings too long\n"
 refusal_line (BitsLine line why) = codes "refused: bitstrings line " ++ decimal line ++ bits_why why
 refusal_line (Plan fault) = codes "refused: plan: " ++ (fault_text fault ++ codes "\n")
 refusal_line (ProbTooDeep weight) = codes "refused: plan: ProbTooDeep " ++ decimal weight ++ codes "\n"
+refusal_line NoCut = codes "refused: plan: NoCut\n"
 
 abbrev pub fault_line : Input → List ℕ
 fault_line OfCircuit = codes "read fault: circuit\n"

@@ -4,8 +4,8 @@
 //! one after the other until a write fails. Why a call stops is for the crates above to say.
 #![tactic(auto)]
 
-mod say;
+mod message;
 mod stop;
 
-pub use say::tell;
+pub use message::{say, tell};
 pub use stop::{Input, JournalRefusal, Refusal, Stop};

@@ -20,6 +20,8 @@ pub enum Refusal {
     Plan(PlanFault),
     /// Probabilities are asked of a circuit whose weight is this, above 120.
     ProbTooDeep { weight: u32 },
+    /// The cheapest cut is asked for, and no cut is allowed.
+    NoCut,
 }
 
 /// Why a journal is refused: that of the run, or the old one that is to be taken over.

@@ -9,13 +9,13 @@ ghost use Rattle.qh_record.specs.Moments.{IsMade, OldIsMade, BeginsTrue, IsOldOr
 ghost use Rattle.qh_words.specs.declared.options.Options.{Options as OptionsValue};
 ghost use Rattle.qh_words.specs.declared.size.GenSize.{GenSize as Size};
 ghost use Rattle.qh_tell.specs.Seen.{seen};
+ghost use Rattle.qh_request.specs.Chosen.{asks_auto};
 ghost use Rattle.qh_request.specs.Jobs.{request, keeping, Asks, Takes};
 ghost use Rattle.qh_request.specs.Refusals.{Refuses, Reading, RefusesAll, SourceRises, JournalRefuses};
 ghost use Rattle.qh_request.specs.Request.{Prints, PrintsAsked, RunIsWhole, EndsWhole, EndsEarly, Answers, FaultCame, FaultFirst};
 ghost use Rattle.qh_tell.specs.declared.stop.Refusal.{Refusal as RefusalValue};
 ghost use Rattle.qh_tell.specs.declared.stop.JournalRefusal.{JournalRefusal as JournalRefusalValue};
-ghost use Rattle.qh_request.specs.Outcomes.{MayStop, Stops};
-ghost use Rattle.qh_tell.specs.Stops.{Says};
+ghost use Rattle.qh_request.specs.Outcomes.{MayStop, Stops, TellsTable, Tells};
 
 use crate::call::answered;
 use qh_disk::Disk;
@@ -70,7 +70,8 @@ pub fn qsimh_alone<C: Source, B: Source, O: Sink, E: Sink, D: Disk, F: Disk, T: 
     // amplitudes. Nothing went to the error sink.
     ensures printed { result ≡ 0 → IsSomeAnd (request words.now) (λ o.
         Prints o (seen C.left C.faults circuit.old circuit.new) (seen B.left B.faults bits.old bits.new) (seen O.held O.faults out.old out.new) (D.face disk.new) (λ text. text)) }
-    ensures quiet { result ≡ 0 → err.new ≡ err.old }
+    ensures quiet { (o : OptionsValue) → request words.now ≡ Some o → asks_auto o.part ≡ false → result ≡ 0 → err.new ≡ err.old }
+    ensures tabled { result ≡ 0 → IfSome (request words.now) (λ o. TellsTable (asks_auto o.part) o (seen C.left C.faults circuit.old circuit.new) (seen B.left B.faults bits.old bits.new) (seen E.held E.faults err.old err.new)) }
 
     // Exact: where the slots at entry are true, the sink got the amplitudes that the job asks for, or a front of their text, or a path is over.
     ensures exact { (o : OptionsValue) (j : JobValue) → Asks (request words.now) (C.left circuit.old) (B.left bits.old) o j
@@ -83,7 +84,7 @@ pub fn qsimh_alone<C: Source, B: Source, O: Sink, E: Sink, D: Disk, F: Disk, T: 
     // Causes: every other status has its own, and its line went to the error sink.
     ensures stopped { result ≢ 0 → Stops result
         (MayStop (request words.now) (seen C.left C.faults circuit.old circuit.new) (seen B.left B.faults bits.old bits.new) (seen O.held O.faults out.old out.new) (D.face disk.old) (D.face disk.new) (F.face old.old) (F.face old.new))
-        (Says (seen E.held E.faults err.old err.new)) }
+        (Tells (request words.now) (seen C.left C.faults circuit.old circuit.new) (seen B.left B.faults bits.old bits.new) (seen E.held E.faults err.old err.new)) }
 
     // Probabilities are over nowhere.
     ensures prob_fits { (o : OptionsValue) → request words.now ≡ Some o → o.prob ≡ true → result ≢ 3 }

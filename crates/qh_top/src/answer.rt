@@ -8,6 +8,7 @@ ghost use Rattle.qh_gates.specs.Evolution.{uncut, NeverOver};
 ghost use Rattle.qh_uncut.specs.Faults.{IsCause};
 ghost use Rattle.qh_plan.specs.Plans.{AreBits};
 ghost use Rattle.qh_prob.specs.Probability.{probabilities};
+ghost use Rattle.qh_request.specs.Chosen.{asks_auto, IsTableBy};
 ghost use Rattle.qh_request.specs.Answer.{gen_line, head_text};
 ghost use Rattle.qh_request.specs.Indexed.{IsUncutText, IsProbText, IsWholeText, IsIndexedBy};
 ghost use Rattle.qh_request.specs.Request.{EndsEarly, HeardOf};
@@ -20,6 +21,7 @@ use qh_gates::Circuit;
 use qh_lease::Timer;
 use qh_limits::MAX_WEIGHT;
 use qh_plan::check_uncut;
+use qh_planner::CutRow;
 use qh_print::{Lines, lines_of};
 use qh_prob::{Prob, all_probabilities, prob_lines};
 use qh_ring::Omega;
@@ -236,11 +238,13 @@ pub(crate) fn answer<D: Disk, F: Disk, T: Timer>(
     options: &Options,
     circuit: Circuit,
     indices: Vec<u64>,
+    rows: &[CutRow],
     disk: &mut D,
     old: &mut F,
     timer: &mut T,
 ) -> Result<Vec<u8>, Stop>
-    requires { AreBits circuit.qubits indices.items }
+    requires bits { AreBits circuit.qubits indices.items }
+    requires table { IsTableBy (asks_auto options.now.part) options.now circuit indices.items rows.now }
     ensures answer { IfOk result (λ text. IsIndexedBy options.now.part options.now (D.face disk.old) (D.face disk.new) (F.face old.old) (HeardOf (T.granted_count timer.old) (T.granted_count timer.new)) circuit indices.items text.items) }
     ensures cause { IfErr result (AnswerMayStop options.now.part options.now circuit indices.items (D.face disk.old) (D.face disk.new) (F.face old.old) (F.face old.new) (HeardOf (T.granted_count timer.old) (T.granted_count timer.new))) }
     ensures moves { ((disk.new ≡ disk.old) × (old.new ≡ old.old)) ⊎ AnswerMoves options.now.part options.now circuit indices.items (D.face disk.old) (D.face disk.new) (F.face old.old) (F.face old.new) }
@@ -257,6 +261,7 @@ pub(crate) fn answer<D: Disk, F: Disk, T: Timer>(
             part.as_str(),
             circuit,
             indices,
+            rows,
             disk,
             old,
             timer,

@@ -4,35 +4,44 @@ ghost use Rattle.qh_words.specs.Size.{IsGenSize};
 ghost use Rattle.qh_words.specs.declared.options.Options.{Options as OptionsValue};
 ghost use Rattle.qh_words.specs.declared.size.GenSize.{GenSize as Size};
 ghost use Rattle.qh_tell.specs.Seen.{seen};
+ghost use Rattle.qh_request.specs.Chosen.{asks_auto};
 ghost use Rattle.qh_request.specs.Jobs.{request};
 ghost use Rattle.qh_request.specs.Request.{Prints, EndsEarly, HeardOf};
 ghost use Rattle.qh_tell.specs.Stops.{status_of, Says};
-ghost use Rattle.qh_request.specs.Outcomes.{MayStopBy, MayStop, Stops};
+ghost use Rattle.qh_request.specs.Outcomes.{MayStopBy, MayStop, Stops, SaysBefore, TellsTable, Tells};
 ghost use Rattle.qh_request.specs.Parts.{Moves, Ended};
 
 use crate::answer::answer;
+use crate::table::{tell_on, tell_table};
 use qh_disk::Disk;
 use qh_io::{Sink, Source, write_all_of};
 use qh_lease::Timer;
 use qh_request::take_input;
-use qh_tell::{Stop, tell};
+use qh_tell::Stop;
 use qh_words::{Options, WordsFault, read_words};
 use std::alloc::Global;
 
 /// Takes the input that the options ask for, computes, and writes.
-fn run_with<C: Source, B: Source, O: Sink, D: Disk, F: Disk, T: Timer>(
+fn run_with<C: Source, B: Source, O: Sink, E: Sink, D: Disk, F: Disk, T: Timer>(
     alloc: Global,
     options: &Options,
     circuit: &mut C,
     bits: &mut B,
     out: &mut O,
+    err: &mut E,
+    whole: &mut bool,
     disk: &mut D,
     old: &mut F,
     timer: &mut T,
 ) -> Result<(), Stop>
-    requires { IfSome options.now.generated IsGenSize }
+    requires size { IfSome options.now.generated IsGenSize }
+    requires still { whole.old ≡ true }
     ensures later_circuit { C.faults circuit.old ≤ C.faults circuit.new }
     ensures later_bits { B.faults bits.old ≤ B.faults bits.new }
+    ensures later_err { E.faults err.old ≤ E.faults err.new }
+    ensures quiet { asks_auto options.now.part ≡ false → err.new ≡ err.old }
+    ensures tabled { OnOk result (TellsTable (asks_auto options.now.part) options.now (seen C.left C.faults circuit.old circuit.new) (seen B.left B.faults bits.old bits.new) (seen E.held E.faults err.old err.new)) }
+    ensures said { IfErr result (SaysBefore options.now (seen C.left C.faults circuit.old circuit.new) (seen B.left B.faults bits.old bits.new) (seen E.held E.faults err.old err.new) whole.new) }
     ensures later_out { O.faults out.old ≤ O.faults out.new }
     ensures unread { (size : Size) → options.now.generated ≡ Some size → (circuit.new ≡ circuit.old) × (bits.new ≡ bits.old) }
     ensures cause { IfErr result (MayStopBy options.now (seen C.left C.faults circuit.old circuit.new) (seen B.left B.faults bits.old bits.new) (seen O.held O.faults out.old out.new) (D.face disk.old) (D.face disk.new) (F.face old.old) (F.face old.new)) }
@@ -50,7 +59,11 @@ fn run_with<C: Source, B: Source, O: Sink, D: Disk, F: Disk, T: Timer>(
         Ok(input) => input,
         Err(stop) => return Err(stop),
     };
-    let text = match answer(alloc, options, value, indices, disk, old, timer) {
+    let rows = match tell_table(alloc, options, &value, &indices, err, whole) {
+        Ok(rows) => rows,
+        Err(_) => return Err(Stop::Memory),
+    };
+    let text = match answer(alloc, options, value, indices, &rows, disk, old, timer) {
         Ok(text) => text,
         Err(stop) => return Err(stop),
     };
@@ -61,18 +74,26 @@ fn run_with<C: Source, B: Source, O: Sink, D: Disk, F: Disk, T: Timer>(
 }
 
 /// Reads the words, and runs where they are a request.
-fn run<C: Source, B: Source, O: Sink, D: Disk, F: Disk, T: Timer>(
+fn run<C: Source, B: Source, O: Sink, E: Sink, D: Disk, F: Disk, T: Timer>(
     alloc: Global,
     words: &[String],
     circuit: &mut C,
     bits: &mut B,
     out: &mut O,
+    err: &mut E,
+    whole: &mut bool,
     disk: &mut D,
     old: &mut F,
     timer: &mut T,
 ) -> Result<(), Stop>
+    requires { whole.old ≡ true }
     ensures later_circuit { C.faults circuit.old ≤ C.faults circuit.new }
     ensures later_bits { B.faults bits.old ≤ B.faults bits.new }
+    ensures later_err { E.faults err.old ≤ E.faults err.new }
+    ensures quiet { (o : OptionsValue) → request words.now ≡ Some o → asks_auto o.part ≡ false → err.new ≡ err.old }
+    ensures tabled { OnOk result (IfSome (request words.now) (λ o. TellsTable (asks_auto o.part) o (seen C.left C.faults circuit.old circuit.new) (seen B.left B.faults bits.old bits.new) (seen E.held E.faults err.old err.new))) }
+    ensures said { IfErr result (λ stop. IfSome (request words.now) (λ o. SaysBefore o (seen C.left C.faults circuit.old circuit.new) (seen B.left B.faults bits.old bits.new) (seen E.held E.faults err.old err.new) whole.new stop)) }
+    ensures unsaid { request words.now ≡ None → (err.new ≡ err.old) × (whole.new ≡ true) }
     ensures later_out { O.faults out.old ≤ O.faults out.new }
     ensures unread { result ≡ Err Stop.Usage → (circuit.new ≡ circuit.old) × (bits.new ≡ bits.old) }
     ensures generated { IfSome (request words.now) (λ o. (size : Size) → o.generated ≡ Some size → (circuit.new ≡ circuit.old) × (bits.new ≡ bits.old)) }
@@ -93,7 +114,9 @@ fn run<C: Source, B: Source, O: Sink, D: Disk, F: Disk, T: Timer>(
     ensures old_loans { F.loans old.new ≡ F.loans old.old }
 {
     match read_words(alloc, words) {
-        Ok(options) => run_with(alloc, &options, circuit, bits, out, disk, old, timer),
+        Ok(options) => run_with(
+            alloc, &options, circuit, bits, out, err, whole, disk, old, timer,
+        ),
         Err(WordsFault::Usage) => Err(Stop::Usage),
         Err(WordsFault::Memory) => Err(Stop::Memory),
     }
@@ -113,10 +136,11 @@ pub(crate) fn answered<C: Source, B: Source, O: Sink, E: Sink, D: Disk, F: Disk,
 ) -> u8
     ensures printed { result ≡ 0 → IsSomeAnd (request words.now) (λ o.
         Prints o (seen C.left C.faults circuit.old circuit.new) (seen B.left B.faults bits.old bits.new) (seen O.held O.faults out.old out.new) (D.face disk.new) (λ text. text)) }
-    ensures quiet { result ≡ 0 → err.new ≡ err.old }
+    ensures quiet { (o : OptionsValue) → request words.now ≡ Some o → asks_auto o.part ≡ false → result ≡ 0 → err.new ≡ err.old }
+    ensures tabled { result ≡ 0 → IfSome (request words.now) (λ o. TellsTable (asks_auto o.part) o (seen C.left C.faults circuit.old circuit.new) (seen B.left B.faults bits.old bits.new) (seen E.held E.faults err.old err.new)) }
     ensures stopped { result ≢ 0 → Stops result
         (MayStop (request words.now) (seen C.left C.faults circuit.old circuit.new) (seen B.left B.faults bits.old bits.new) (seen O.held O.faults out.old out.new) (D.face disk.old) (D.face disk.new) (F.face old.old) (F.face old.new))
-        (Says (seen E.held E.faults err.old err.new)) }
+        (Tells (request words.now) (seen C.left C.faults circuit.old circuit.new) (seen B.left B.faults bits.old bits.new) (seen E.held E.faults err.old err.new)) }
     ensures ended { IfSome (request words.now) (λ o.
         Ended o (seen C.left C.faults circuit.old circuit.new) (seen B.left B.faults bits.old bits.new) (seen O.held O.faults out.old out.new) (D.face disk.old) (D.face disk.new) (F.face old.old) (HeardOf (T.granted_count timer.old) (T.granted_count timer.new)) result) }
     ensures moves { ((disk.new ≡ disk.old) × (old.new ≡ old.old)) ⊎ IsSomeAnd (request words.now) (λ o.
@@ -131,10 +155,13 @@ pub(crate) fn answered<C: Source, B: Source, O: Sink, E: Sink, D: Disk, F: Disk,
         × (O.faults out.old ≤ O.faults out.new) × (E.faults err.old ≤ E.faults err.new) }
     ensures loans { (D.loans disk.new ≡ D.loans disk.old) × (F.loans old.new ≡ F.loans old.old) }
 {
-    match run(alloc, words, circuit, bits, out, disk, old, timer) {
+    let mut whole = true;
+    match run(
+        alloc, words, circuit, bits, out, err, &mut whole, disk, old, timer,
+    ) {
         Ok(()) => 0,
         Err(stop) => {
-            tell(err, stop);
+            tell_on(err, stop, whole);
             stop.status()
         }
     }

@@ -1,8 +1,9 @@
 //! The text of a circuit that is cut.
-ghost use Rattle.std.specs.Prelude.{◌≡◌, ◌≢◌, ◌⊎◌, [], false, Some, None, IfOk, IfErr, OnOk, IsSomeAnd};
+ghost use Rattle.std.specs.Prelude.{◌≡◌, ◌≢◌, ◌⊎◌, [], true, false, Some, None, IfOk, IfErr, OnOk, IsSomeAnd};
 ghost use Rattle.std.specs.Arc.{arc_value};
 ghost use Rattle.qh_plan.specs.Plans.{AreBits, IsPlanned};
 ghost use Rattle.qh_plan.specs.declared.verdict.Verdict.TheVariants.{Sum};
+ghost use Rattle.qh_request.specs.Chosen.{is_auto, IsPart, IsTableBy, NoneAllowed};
 ghost use Rattle.qh_request.specs.Jobs.{IsPlannedJob, keeping};
 ghost use Rattle.qh_request.specs.Indexed.{IsSumsText, IsCutText};
 ghost use Rattle.qh_request.specs.Refusals.{PlanRefusesBy};
@@ -12,10 +13,12 @@ ghost use Rattle.qh_request.specs.Parts.{PlanMayStop, JobMayStop, CutMayStop, Jo
 ghost use Rattle.qh_top.specs.Parts.{StopsWith, IsPrintable};
 
 use crate::answer::with_head;
+use crate::table::{cheapest_part, is_auto};
 use qh_disk::Disk;
 use qh_gates::Circuit;
 use qh_lease::Timer;
 use qh_plan::{Job, plan, read_part};
+use qh_planner::CutRow;
 use qh_print::lines_of;
 use qh_ring::Omega;
 use qh_run::{RunEnd, run_kept, run_unkept};
@@ -24,6 +27,29 @@ use qh_words::{GenSize, Options};
 use std::alloc::Global;
 use std::sync::Arc;
 
+/// The items of part 1: the numbers that its text lists, or the qubits of the cheapest cut of the table.
+fn part_items(
+    alloc: Global,
+    options: &Options,
+    part: &str,
+    circuit: &Circuit,
+    indices: &[u64],
+    rows: &[CutRow],
+) -> Result<Vec<u32>, Stop>
+    requires { IsTableBy (is_auto part.now) options.now circuit.now indices.now rows.now }
+    ensures items { IfOk result (λ items. IsPart options.now part.now circuit.now indices.now items.items) }
+    ensures cause { IfErr result (PlanMayStop (PlanRefusesBy (Some part.now) options.now circuit.now indices.now)
+        ((is_auto part.now ≡ true) × NoneAllowed options.now circuit.now indices.now)) }
+{
+    if is_auto(part) {
+        return cheapest_part(alloc, rows);
+    }
+    match read_part(alloc, part) {
+        Ok(items) => Ok(items),
+        Err(fault) => Err(Stop::of_plan(fault)),
+    }
+}
+
 /// The job that the options plan over a part 1.
 pub(crate) fn planned(
     alloc: Global,
@@ -31,15 +57,18 @@ pub(crate) fn planned(
     part: &str,
     circuit: Circuit,
     indices: Vec<u64>,
+    rows: &[CutRow],
 ) -> Result<Job, Stop>
-    requires { AreBits circuit.qubits indices.items }
+    requires bits { AreBits circuit.qubits indices.items }
+    requires table { IsTableBy (is_auto part.now) options.now circuit indices.items rows.now }
     ensures job { IfOk result (IsPlannedJob options.now part.now circuit indices.items) }
     ensures planned { IfOk result IsPlanned }
-    ensures cause { IfErr result (PlanMayStop (PlanRefusesBy (Some part.now) options.now circuit indices.items)) }
+    ensures cause { IfErr result (PlanMayStop (PlanRefusesBy (Some part.now) options.now circuit indices.items)
+        ((is_auto part.now ≡ true) × NoneAllowed options.now circuit indices.items)) }
 {
-    let items = match read_part(alloc, part) {
+    let items = match part_items(alloc, options, part, &circuit, &indices, rows) {
         Ok(items) => items,
-        Err(fault) => return Err(Stop::of_plan(fault)),
+        Err(stop) => return Err(stop),
     };
     match plan(
         alloc, circuit, &items, options.p, options.r, options.w, indices,
@@ -167,11 +196,13 @@ pub(crate) fn cut_answer<D: Disk, F: Disk, T: Timer>(
     part: &str,
     circuit: Circuit,
     indices: Vec<u64>,
+    rows: &[CutRow],
     disk: &mut D,
     old: &mut F,
     timer: &mut T,
 ) -> Result<Vec<u8>, Stop>
-    requires { AreBits circuit.qubits indices.items }
+    requires bits { AreBits circuit.qubits indices.items }
+    requires table { IsTableBy (is_auto part.now) options.now circuit indices.items rows.now }
     ensures answer { IfOk result (λ text. IsCutText options.now (D.face disk.old) (D.face disk.new) (F.face old.old) (HeardOf (T.granted_count timer.old) (T.granted_count timer.new)) part.now circuit indices.items text.items) }
     ensures cause { IfErr result (CutMayStop options.now part.now circuit indices.items (D.face disk.old) (D.face disk.new) (F.face old.old) (F.face old.new) (HeardOf (T.granted_count timer.old) (T.granted_count timer.new))) }
     ensures moves { ((disk.new ≡ disk.old) × (old.new ≡ old.old)) ⊎ PlannedMoves options.now part.now circuit indices.items (D.face disk.old) (D.face disk.new) (F.face old.old) (F.face old.new) }
@@ -180,7 +211,7 @@ pub(crate) fn cut_answer<D: Disk, F: Disk, T: Timer>(
     ensures loans { D.loans disk.new ≡ D.loans disk.old }
     ensures old_loans { F.loans old.new ≡ F.loans old.old }
 {
-    let job = match planned(alloc, options, part, circuit, indices) {
+    let job = match planned(alloc, options, part, circuit, indices, rows) {
         Ok(job) => job,
         Err(stop) => return Err(stop),
     };

@@ -8,13 +8,13 @@ ghost use Rattle.qh_record.specs.Moments.{IsMade, OldIsMade, BeginsTrue, IsOldOr
 ghost use Rattle.qh_words.specs.declared.options.Options.{Options as OptionsValue};
 ghost use Rattle.qh_words.specs.declared.size.GenSize.{GenSize as Size};
 ghost use Rattle.qh_tell.specs.Seen.{seen};
+ghost use Rattle.qh_request.specs.Chosen.{asks_auto};
 ghost use Rattle.qh_request.specs.Jobs.{request, keeping, Asks, Takes};
 ghost use Rattle.qh_request.specs.Refusals.{Refuses, Reading, RefusesAll, SourceRises, JournalRefuses};
 ghost use Rattle.qh_request.specs.Request.{Prints, PrintsAsked, RunIsWhole, EndsWholeBy, AnyGrants, EndsEarly, Answers, FaultCame, FaultFirst};
 ghost use Rattle.qh_tell.specs.declared.stop.Refusal.{Refusal as RefusalValue};
 ghost use Rattle.qh_tell.specs.declared.stop.JournalRefusal.{JournalRefusal as JournalRefusalValue};
-ghost use Rattle.qh_request.specs.Outcomes.{MayStop, Stops};
-ghost use Rattle.qh_tell.specs.Stops.{Says};
+ghost use Rattle.qh_request.specs.Outcomes.{MayStop, Stops, TellsTable, Tells};
 
 use crate::shared_call::answered_shared;
 use qh_disk::Disk;
@@ -91,7 +91,8 @@ where
     // amplitudes. Nothing went to the error sink.
     ensures printed { result.status ≡ 0 → IsSomeAnd (request words.now) (λ o.
         Prints o (seen C.left C.faults circuit.old circuit.new) (seen B.left B.faults bits.old bits.new) (seen O.held O.faults out.old out.new) (D.face result.disk) (λ text. text)) }
-    ensures quiet { result.status ≡ 0 → err.new ≡ err.old }
+    ensures quiet { (o : OptionsValue) → request words.now ≡ Some o → asks_auto o.part ≡ false → result.status ≡ 0 → err.new ≡ err.old }
+    ensures tabled { result.status ≡ 0 → IfSome (request words.now) (λ o. TellsTable (asks_auto o.part) o (seen C.left C.faults circuit.old circuit.new) (seen B.left B.faults bits.old bits.new) (seen E.held E.faults err.old err.new)) }
 
     // Exact: where the slots at entry are true, the sink got the amplitudes that the job asks for, or a front of their text, or a path is over.
     ensures exact { (o : OptionsValue) (j : JobValue) → Asks (request words.now) (C.left circuit.old) (B.left bits.old) o j
@@ -104,7 +105,7 @@ where
     // Causes: every other status has its own, and its line went to the error sink.
     ensures stopped { result.status ≢ 0 → Stops result.status
         (MayStop (request words.now) (seen C.left C.faults circuit.old circuit.new) (seen B.left B.faults bits.old bits.new) (seen O.held O.faults out.old out.new) (D.face disk) (D.face result.disk) (F.face old.old) (F.face old.new))
-        (Says (seen E.held E.faults err.old err.new)) }
+        (Tells (request words.now) (seen C.left C.faults circuit.old circuit.new) (seen B.left B.faults bits.old bits.new) (seen E.held E.faults err.old err.new)) }
 
     // Probabilities are over nowhere.
     ensures prob_fits { (o : OptionsValue) → request words.now ≡ Some o → o.prob ≡ true → result.status ≢ 3 }

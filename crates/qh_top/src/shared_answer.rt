@@ -5,6 +5,7 @@ ghost use Rattle.qh_limits.specs.Limits.{max_uncut_qubits};
 ghost use Rattle.qh_plan.specs.Plans.{AreBits, IsPlanned};
 ghost use Rattle.qh_plan.specs.declared.verdict.Verdict.TheVariants.{Sum};
 ghost use Rattle.qh_words.specs.Request.{HasWorkers};
+ghost use Rattle.qh_request.specs.Chosen.{is_auto, asks_auto, IsTableBy};
 ghost use Rattle.qh_request.specs.Jobs.{keeping};
 ghost use Rattle.qh_request.specs.Indexed.{IsCutText, IsIndexedBy, IsUncutText, IsProbText, IsWholeText};
 ghost use Rattle.qh_request.specs.Request.{EndsEarly, IsRun, AnyGrants};
@@ -18,6 +19,7 @@ use qh_disk::Disk;
 use qh_gates::Circuit;
 use qh_lease::Timer;
 use qh_plan::{Job, check_uncut};
+use qh_planner::CutRow;
 use qh_prob::chunk_probabilities;
 use qh_ring::Omega;
 use qh_run_shared::{run_kept_shared, run_unkept_shared};
@@ -119,6 +121,7 @@ fn cut_answer_shared<R, D, F, T, W>(
     part: &str,
     circuit: Circuit,
     indices: Vec<u64>,
+    rows: &[CutRow],
     disk: &mut D,
     old: &mut F,
     timer: &mut T,
@@ -131,6 +134,7 @@ where
     W: WorkerGate + Sync,
     F: Disk,
     requires bits { AreBits circuit.qubits indices.items }
+    requires table { IsTableBy (is_auto part.now) options.now circuit indices.items rows.now }
     requires workers { HasWorkers options.now }
     ensures answer { IfOk result (λ text. IsCutText options.now (D.face disk.old) (D.face disk.new) (F.face old.old) AnyGrants part.now circuit indices.items text.items) }
     ensures cause { IfErr result (CutMayStop options.now part.now circuit indices.items (D.face disk.old) (D.face disk.new) (F.face old.old) (F.face old.new) AnyGrants) }
@@ -140,7 +144,7 @@ where
     ensures loans { D.loans disk.new ≡ D.loans disk.old }
     ensures old_loans { F.loans old.new ≡ F.loans old.old }
 {
-    let job = match planned(alloc, options, part, circuit, indices) {
+    let job = match planned(alloc, options, part, circuit, indices, rows) {
         Ok(job) => job,
         Err(stop) => return Err(stop),
     };
@@ -225,6 +229,7 @@ pub(crate) fn answer_shared<R, D, F, T, W>(
     options: &Options,
     circuit: Circuit,
     indices: Vec<u64>,
+    rows: &[CutRow],
     disk: &mut D,
     old: &mut F,
     timer: &mut T,
@@ -237,6 +242,7 @@ where
     W: WorkerGate + Sync,
     F: Disk,
     requires bits { AreBits circuit.qubits indices.items }
+    requires table { IsTableBy (asks_auto options.now.part) options.now circuit indices.items rows.now }
     requires workers { HasWorkers options.now }
     ensures answer { IfOk result (λ text. IsIndexedBy options.now.part options.now (D.face disk.old) (D.face disk.new) (F.face old.old) AnyGrants circuit indices.items text.items) }
     ensures cause { IfErr result (AnswerMayStop options.now.part options.now circuit indices.items (D.face disk.old) (D.face disk.new) (F.face old.old) (F.face old.new) AnyGrants) }
@@ -269,6 +275,7 @@ where
             part.as_str(),
             circuit,
             indices,
+            rows,
             disk,
             old,
             timer,

@@ -17,8 +17,7 @@ invariant_of-self-2 g c =
 pub returns-clause-comes : goal.returns-clause-comes
 returns-clause-comes g c =
     subst (λ (v : BoardView g.row.D.Denot g.row.T.Denot). (v.course.fault ≡ None)
-        × IsNext g.T.Timer.due_count g.T.Timer.not_due_count g.T.Timer.may_say v.course.leases v.timer.now c.grant-ticket.new.timer c.grant-ticket.result.range) c.self.view_is
-    (
+    × IsNext g.T.Timer.due_count g.T.Timer.not_due_count g.T.Timer.may_say v.course.leases v.timer.now c.grant-ticket.new.timer c.grant-ticket.result.range) c.self.view_is (
       sym c.fault.ensures ∙ c.in_default.is,
       next_told g.T.Timer.due_count g.T.Timer.not_due_count g.T.Timer.may_say c.self.inside.course.leases c.self.inside.timer.now c.next.new.timer c.grant-ticket.new.timer
           c.in-Some-next.range c.grant-ticket.result.range c.grant-ticket.ensures.range c.grant-ticket.ensures.due c.grant-ticket.ensures.not_due c.in-Some-next.ensures.found,

@@ -1,6 +1,6 @@
 use Rattle.std.proofs.Common.{sym, ap, ◌∙◌, ◌++◌, subst, codes}
 use Rattle.qh_tell.specs.Stops.{Says, attach_text, journal_line}
-use Rattle.qh_tell.proofs.say.tell_journal.Goals as goal
+use Rattle.qh_tell.proofs.message.tell_journal.Goals as goal
 
 pub returns-in-OfOld : goal.returns-in-OfOld
 returns-in-OfOld g c =

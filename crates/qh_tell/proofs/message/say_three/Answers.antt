@@ -2,7 +2,7 @@ use Rattle.std.proofs.Common.{append_assoc, sym, subst}
 use Rattle.qh_tell.specs.Stops.{Says}
 use Rattle.qh_counts.proofs.Chains.{rose_before}
 use Rattle.qh_tell.proofs.Saying.{says_append, says_stop}
-use Rattle.qh_tell.proofs.say.say_three.Goals as goal
+use Rattle.qh_tell.proofs.message.say_three.Goals as goal
 
 pub returns-then-not-say : goal.returns-then-not-say
 returns-then-not-say g c =

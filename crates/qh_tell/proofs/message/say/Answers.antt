@@ -1,5 +1,5 @@
 use Rattle.qh_tell.proofs.Saying.{says_whole, says_part}
-use Rattle.qh_tell.proofs.say.say.Goals as goal
+use Rattle.qh_tell.proofs.message.say.Goals as goal
 
 pub returns-in-Ok-clause-says : goal.returns-in-Ok-clause-says
 returns-in-Ok-clause-says g c = says_whole _ _ _ _ _ c.in-Ok.ensures.later c.in-Ok.ensures.whole

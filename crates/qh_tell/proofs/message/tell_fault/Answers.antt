@@ -3,7 +3,7 @@ use Rattle.std.specs.Io.KnownBytes.{Appends}
 use Rattle.qh_planner.specs.Spelling.{fault_name, fault_number, number_word}
 use Rattle.qh_tell.specs.Stops.{Says}
 use Rattle.qh_tell.proofs.Saying.{says_append, says_stop}
-use Rattle.qh_tell.proofs.say.tell_fault.Goals as goal
+use Rattle.qh_tell.proofs.message.tell_fault.Goals as goal
 
 pub returns-then-not-say : goal.returns-then-not-say
 returns-then-not-say g c =

@@ -2,7 +2,7 @@ use Rattle.std.proofs.Common.{subst}
 use Rattle.std.specs.Io.KnownBytes.{Appends}
 use Rattle.qh_tell.specs.Stops.{Says, attach_text}
 use Rattle.qh_tell.proofs.Saying.{says_append, says_stop}
-use Rattle.qh_tell.proofs.say.tell_attach.Goals as goal
+use Rattle.qh_tell.proofs.message.tell_attach.Goals as goal
 
 pub returns-then-not-say : goal.returns-then-not-say
 returns-then-not-say g c =

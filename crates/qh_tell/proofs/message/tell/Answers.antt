@@ -1,6 +1,6 @@
 use Rattle.std.proofs.Common.{sym, ap, ◌∙◌, subst}
 use Rattle.qh_tell.specs.Stops.{Says, message_of}
-use Rattle.qh_tell.proofs.say.tell.Goals as goal
+use Rattle.qh_tell.proofs.message.tell.Goals as goal
 
 pub returns-in-Usage : goal.returns-in-Usage
 returns-in-Usage g c = subst (Says _) (c.as_bytes.ensures.value ∙ sym (ap message_of c.in-Usage.is)) c.say.ensures.says

@@ -1,6 +1,6 @@
 use Rattle.std.proofs.Common.{sym, ap, ◌∙◌, ◌++◌, subst, decimal, codes}
 use Rattle.qh_tell.specs.Stops.{Says, refusal_line}
-use Rattle.qh_tell.proofs.say.tell_refusal.Goals as goal
+use Rattle.qh_tell.proofs.message.tell_refusal.Goals as goal
 
 pub returns-in-CircuitTooLong : goal.returns-in-CircuitTooLong
 returns-in-CircuitTooLong g c = subst (Says _) (c.as_bytes.ensures.value ∙ sym (ap refusal_line c.in-CircuitTooLong.is)) c.say.ensures.says
@@ -21,3 +21,6 @@ returns-in-Plan g c = subst (Says _) (sym (ap refusal_line c.in-Plan.is)) c.tell
 
 pub returns-in-ProbTooDeep : goal.returns-in-ProbTooDeep
 returns-in-ProbTooDeep g c = subst (Says _) (sym (ap refusal_line c.in-ProbTooDeep.is)) c.say_number-in-ProbTooDeep.ensures
+
+pub returns-in-NoCut : goal.returns-in-NoCut
+returns-in-NoCut g c = subst (Says _) (c.as_bytes-in-NoCut.ensures.value ∙ sym (ap refusal_line c.in-NoCut.is)) c.say-in-NoCut.ensures.says

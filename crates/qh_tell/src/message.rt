@@ -21,8 +21,8 @@ use qh_slots::AttachFault;
 const USAGE: &str =
     "usage: qsimh_amplitudes -c FILE -i FILE [-d T] [-k LIST] [-p N] [-r N] [-w N] [-o FILE] [-t N] [-v N] [-j FILE] [-l SECONDS] [--new] [-g S,R,C,D]\n";
 
-/// Writes the bytes; whether all of them went.
-fn say<E: Sink>(err: &mut E, bytes: &[u8]) -> bool
+/// Writes the bytes; whether all of them went. It takes no memory.
+pub fn say<E: Sink>(err: &mut E, bytes: &[u8]) -> bool
     ensures says { Says (seen E.held E.faults err.old err.new) bytes.now }
     ensures whole { result ≡ true → Appends (E.held err.old) (E.held err.new) bytes.now }
     ensures cause { result ≡ false → Rose (E.faults err.old) (E.faults err.new) }
@@ -136,6 +136,9 @@ fn tell_refusal<E: Sink>(err: &mut E, refusal: Refusal)
         }
         Refusal::ProbTooDeep { weight } => {
             say_number(err, "refused: plan: ProbTooDeep ", weight as u64, "\n");
+        }
+        Refusal::NoCut => {
+            say(err, "refused: plan: NoCut\n".as_bytes());
         }
     }
 }
