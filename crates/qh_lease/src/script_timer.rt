@@ -9,8 +9,7 @@ use crate::timer_counts::TimerCounts;
 use std::alloc::{AllocError, Global};
 use std::marker::Model;
 
-/// A timer that gives the answers of a list in turn, and "not due" after them. It keeps the last grant that it was
-/// told.
+/// A timer that gives the answers of a list in turn, and "not due" after them. It keeps the last grant that it was told.
 #[derive(Debug, Drop)]
 pub struct ScriptTimer {
     answers: Vec<bool>,
