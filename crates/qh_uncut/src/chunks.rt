@@ -24,8 +24,8 @@ use std::alloc::Global;
 use std::mem::swap;
 use std::thread::Threads;
 
-/// Vectors of fewer qubits are made by one thread: starting others takes longer than the work.
-const LEAST_QUBITS: u32 = 12;
+/// Vectors of fewer qubits are made by one thread: starting others for each gate takes longer than the work.
+const LEAST_QUBITS: u32 = 16;
 
 /// Makes the numbers of a new vector by a matrix on qubit `q`, each in one of several threads.
 fn make_by_pairs<R: Threads + Sync>(

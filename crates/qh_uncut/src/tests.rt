@@ -181,15 +181,15 @@ const CHAIN: [Row; 12] = [
     (Kind::T, 10, 10),
 ];
 
-/// By several threads: of 12 qubits, 11 are all 0 or all 1, and `t` turns the second.
+/// By several threads: of 16 qubits, 11 are all 0 or all 1, and `t` turns the second.
 #[test]
 fn chain_by_threads(rt: HostRuntime) -> Result<(), Fail> {
-    let circuit = circuit_of(&rt, rt.alloc(), 12, &CHAIN)?;
+    let circuit = circuit_of(&rt, rt.alloc(), 16, &CHAIN)?;
     assert!(rt; circuit.qubits() <= MAX_UNCUT_QUBITS);
     let Ok(v) = evolve_chunks(&rt, rt.alloc(), &circuit) else {
         return Err(Fail::from(AllocError));
     };
-    assert_eq!(rt; v.len(), 4096);
+    assert_eq!(rt; v.len(), 65536);
     assert_eq!(rt; v.first(), Some(&Omega::ONE));
     assert_eq!(rt; v.get(2047), Some(&number(0, 1, 0, 0)));
     let others = v.iter().filter(|z| **z != Omega::ZERO).count();
@@ -201,7 +201,7 @@ fn chain_by_threads(rt: HostRuntime) -> Result<(), Fail> {
 #[test]
 fn overflow_by_threads(rt: HostRuntime) -> Result<(), Fail> {
     let rows = [(Kind::H, 0, 0); 252];
-    for qubits in [1, 12] {
+    for qubits in [1, 16] {
         let over = circuit_of(&rt, rt.alloc(), qubits, &rows)?;
         assert!(rt; over.qubits() <= MAX_UNCUT_QUBITS);
         let answer = evolve_chunks(&rt, rt.alloc(), &over);
