@@ -1,7 +1,8 @@
 use Rattle.std.proofs.Common.{ℕ, List, length, take, ◌<◌, refl, subst}
 use Rattle.std.specs.Io.KnownBytes.{Appends}
+use Rattle.qh_request.specs.Request.{AnyGrants}
 use Rattle.qh_request.proofs.Causes.{answer_cause}
-use Rattle.qh_request.proofs.Runs.{answered_prints, breaks_off, written, broken, stopped_ends}
+use Rattle.qh_request.proofs.Runs.{answered_prints, moves_or_stays, breaks_off, written, broken, stopped_ends}
 use Rattle.std.proofs.Common.{[]}
 use Rattle.qh_planner.specs.Spelling.{table_text}
 use Rattle.qh_tell.specs.declared.stop.Stop.TheVariants.{Memory}
@@ -40,6 +41,18 @@ pub returns-in-Ok-write_all_of-clause-ended : goal.returns-in-Ok-write_all_of-cl
 returns-in-Ok-write_all_of-clause-ended g c =
     written c.args.options.now _ _ _ _ _ _ c.in-Ok.input.0 c.in-Ok.input.1.items c.in-Ok.ensures.input _ c.in-Ok-answer.text.items c.in-Ok-answer.ensures.answer
     (subst (Appends (g.O.Sink.held c.args.out.now) (g.O.Sink.held c.write_all_of.new.sink)) c.deref-3.ensures.value c.in-Ok-write_all_of.ensures.whole)
+
+pub returns-in-Err-answer-clause-moves : goal.returns-in-Err-answer-clause-moves
+returns-in-Err-answer-clause-moves g c =
+    moves_or_stays c.args.options.now _ _ _ _ _ AnyGrants c.in-Ok.input.0 c.in-Ok.input.1.items c.in-Ok.ensures.input _ _ c.answer.ensures.moves
+
+pub returns-clause-moves : goal.returns-clause-moves
+returns-clause-moves g c =
+    moves_or_stays c.args.options.now _ _ _ _ _ AnyGrants c.in-Ok.input.0 c.in-Ok.input.1.items c.in-Ok.ensures.input _ _ c.answer.ensures.moves
+
+pub returns-in-Ok-write_all_of-clause-moves : goal.returns-in-Ok-write_all_of-clause-moves
+returns-in-Ok-write_all_of-clause-moves g c =
+    moves_or_stays c.args.options.now _ _ _ _ _ AnyGrants c.in-Ok.input.0 c.in-Ok.input.1.items c.in-Ok.ensures.input _ _ c.answer.ensures.moves
 
 pub returns-in-Err-clause-said : goal.returns-in-Err-clause-said
 returns-in-Err-clause-said g c = (
