@@ -24,7 +24,7 @@ use std::sync::ledger::{Blank, Ledger};
 /// Qubit q is bit q of an index. The circuit has at most 16 qubits. Over names the first gate after which a
 /// coefficient's magnitude is 2^126 or more; a circuit of at most 125 gates has none.
 ///
-/// It keeps the state as halves of cut circuits are kept: narrow as long as the numbers are, in 96 bytes a number, and
+/// It keeps the state as halves of cut circuits are kept: narrow as long as the numbers are, in 120 bytes a number, and
 /// then writes the numbers out, 64 bytes each.
 pub fn evolve(alloc: Global, circuit: &Circuit) -> Result<Vec<Omega>, UncutFault>
     requires { circuit.now.qubits ≤ max_uncut_qubits }
