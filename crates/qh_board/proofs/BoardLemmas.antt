@@ -89,8 +89,8 @@ out_grantable (Returned attempt) passes = absurd (false≢true passes)
 out_grantable Acked passes = absurd (false≢true passes)
 
 -- so is the range that a claim chooses
-pub next_known : {T : Type 0} (due not_due : T → ℕ) (leases : List Lease) (old new : T) (range : ℕ) → IsNext due not_due leases old new range → (range < length leases) × (may_grant (lease_at leases range) ≡ true)
-next_known due not_due leases old new range is = elim is [
+pub next_known : {T : Type 0} (due not_due : T → ℕ) (may_say : T → ℕ → ℕ → Bool → Type 0) (leases : List Lease) (old new : T) (range : ℕ) → IsNext due not_due may_say leases old new range → (range < length leases) × (may_grant (lease_at leases range) ≡ true)
+next_known due not_due may_say leases old new range is = elim is [
   | inl fresh ↦ (fresh.within, fresh_grantable (lease_at leases range) fresh.passes)
   | inr (inl returned) ↦ (returned.1.within, returned_grantable (lease_at leases range) returned.1.passes)
   | inr (inr late) ↦ (late.2.known, out_grantable (lease_at leases range) late.2.out)

@@ -4,3 +4,4 @@ pub mod StartLemmas
 pub mod DeliverLemmas
 pub mod DiskLemmas
 pub mod PickLemmas
+pub mod LateLemmas

@@ -6,7 +6,7 @@ ghost use Rattle.qh_plan.specs.Jobs.{ranges};
 ghost use Rattle.qh_lease.specs.Lease.{lease_at, may_grant, grants_of};
 ghost use Rattle.qh_replay.specs.Replay.{is_begun};
 ghost use Rattle.qh_board.specs.Board.{begun};
-ghost use Rattle.qh_board.specs.Claims.{granted, one_grant, given_back, one_back, ClaimComes, ClaimDoes, AdmitComes, AdmitDoes, StaysAsIs, TakesBack, SweepIs};
+ghost use Rattle.qh_board.specs.Claims.{granted, one_grant, given_back, one_back, ClaimComes, ClaimDoes, AdmitComes, AdmitDoes, AdmitTells, StaysAsIs, TakesBack, SweepIs};
 
 use crate::board::{Board, MOST_ENTRIES};
 use crate::choice::next;
@@ -32,6 +32,7 @@ fn grant<T: Timer, N: Ledgers>(
     ensures course { course.new ≡ granted course.old result }
     ensures begun { (r : ℕ) → is_begun course.new r ≡ is_begun course.old r }
     ensures told { Rose (T.granted_count timer.old) (T.granted_count timer.new) }
+    ensures heard { T.hears timer.old timer.new result.range result.attempt }
     ensures due { T.due_count timer.new ≡ T.due_count timer.old }
     ensures not_due { T.not_due_count timer.new ≡ T.not_due_count timer.old }
     ensures tally { tally.new ≡ record tally.old { totals = one_grant tally.old.totals } }
@@ -47,8 +48,8 @@ impl<'d, D: Disk, T: Timer, N: Ledgers> Board<'d, D, T, N> {
     /// Grants the lowest fresh range; else the lowest that was given back after fewer than 16 grants; else the lowest that is out after
     /// fewer than 16 grants and for which the timer answers that it is due, asked in order. Drained where there is none of these.
     pub fn claim(&mut self, share: &mut Share<N>) -> Claim
-        ensures comes { ClaimComes T.due_count T.not_due_count self.old self.new result }
-        ensures does { ClaimDoes T.granted_count self.old self.new share.old share.new result }
+        ensures comes { ClaimComes T.due_count T.not_due_count T.may_say self.old self.new result }
+        ensures does { ClaimDoes T.granted_count T.hears self.old self.new share.old share.new result }
         ensures begun { (range : ℕ) → begun self.new range ≡ begun self.old range }
     {
         if let Some(faults) = self.course.fault() {
@@ -66,7 +67,8 @@ impl<'d, D: Disk, T: Timer, N: Ledgers> Board<'d, D, T, N> {
     pub fn admit(&mut self, range: u32, share: &mut Share<N>) -> Admit
         requires known { range < ranges self.old.job }
         ensures comes { AdmitComes self.old range result }
-        ensures does { AdmitDoes T.granted_count self.old self.new share.old share.new result }
+        ensures does { AdmitDoes T.granted_count T.hears self.old self.new share.old share.new result }
+        ensures tells { AdmitTells T.hears self.old.timer.now self.new.timer.now result }
         ensures begun { (r : ℕ) → begun self.new r ≡ begun self.old r }
     {
         if let Some(faults) = self.course.fault() {

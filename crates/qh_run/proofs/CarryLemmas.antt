@@ -111,15 +111,15 @@ module _ {D T : Type 0} (face : D → Face) (loans : D → List ℕ) where
   stays_carries old new before after same = subst (Carries face loans old) (sym same.board) (carries_same old)
 
   -- a claim
-  pub claim_carries : (due not_due granted_count : T → ℕ) (old new : BoardView D T) (before after : Totals) (claim : Claim) → ClaimComes due not_due old new claim
-      → ClaimDoes granted_count old new before after claim → ((range : ℕ) → begun new range ≡ begun old range) → Carries face loans old new
-  claim_carries due not_due granted_count old new before after (Halted n) comes does kept = stays_carries old new before after does
-  claim_carries due not_due granted_count old new before after Drained comes does kept =
+  pub claim_carries : (due not_due : T → ℕ) (may_say : T → ℕ → ℕ → Bool → Type 0) (granted_count : T → ℕ) (hears : T → T → ℕ → ℕ → Type 0) (old new : BoardView D T) (before after : Totals) (claim : Claim) → ClaimComes due not_due may_say old new claim
+      → ClaimDoes granted_count hears old new before after claim → ((range : ℕ) → begun new range ≡ begun old range) → Carries face loans old new
+  claim_carries due not_due may_say granted_count hears old new before after (Halted n) comes does kept = stays_carries old new before after does
+  claim_carries due not_due may_say granted_count hears old new before after Drained comes does kept =
       let is = does.board in
       carries_still old new (ap (λ b. b.job) is) (ap (λ b. length b.course.leases) is) kept (ap (λ b. b.journal) is) does.timer (λ none. ap (λ b. b.course.leases) is)
-  claim_carries due not_due granted_count old new before after (Granted t) comes does kept =
+  claim_carries due not_due may_say granted_count hears old new before after (Granted t) comes does kept =
       let is = does.board in
-      let known = next_known due not_due old.course.leases old.timer.now new.timer.now t.range comes.1 in
+      let known = next_known due not_due may_say old.course.leases old.timer.now new.timer.now t.range comes.1 in
       carries_still old new (ap (λ b. b.job) is) (ap (λ b. length b.course.leases) is ∙ length-set old.course.leases t.range _) kept (ap (λ b. b.journal) is) does.timer
       (λ none. absurd (none_open old.course.leases t.range none known.0 (grantable_open (lease_at old.course.leases t.range) known.1)))
 

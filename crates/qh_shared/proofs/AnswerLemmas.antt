@@ -24,12 +24,12 @@ use Rattle.qh_shared.specs.Facts.{RunName, UnderLock}
 
 -- ---- tickets of the named job, and strangers
 module _ {D T : Type 0} (face : D → Face) (loans : D → List ℕ) (run : RunName) where
-  pub claim_known : (due not_due : T → ℕ) (old new : BoardView D T) (claim : Claim) → UnderLock face loans run old → ClaimComes due not_due old new claim
+  pub claim_known : (due not_due : T → ℕ) (may_say : T → ℕ → ℕ → Bool → Type 0) (old new : BoardView D T) (claim : Claim) → UnderLock face loans run old → ClaimComes due not_due may_say old new claim
       → IfSome (claim_ticket claim) (λ t. t.range < ranges run.job)
-  claim_known due not_due old new (Halted n) is comes = tt
-  claim_known due not_due old new Drained is comes = tt
-  claim_known due not_due old new (Granted t) is comes =
-      subst (λ n. t.range < n) is.count (next_known due not_due old.course.leases old.timer.now new.timer.now t.range comes.1).0
+  claim_known due not_due may_say old new (Halted n) is comes = tt
+  claim_known due not_due may_say old new Drained is comes = tt
+  claim_known due not_due may_say old new (Granted t) is comes =
+      subst (λ n. t.range < n) is.count (next_known due not_due may_say old.course.leases old.timer.now new.timer.now t.range comes.1).0
 
   pub admit_known : (old : BoardView D T) (range : ℕ) (admit : Admit) → range < ranges run.job → AdmitComes old range admit
       → IfSome (admit_ticket admit) (λ t. t.range < ranges run.job)
@@ -46,22 +46,22 @@ module _ {D T : Type 0} (face : D → Face) (loans : D → List ℕ) (run : RunN
   deliver_cause old r DiskFault is comes = tt
 
 -- ---- shares, and answers that may always come
-pub claim_share : {D T : Type 0} (granted_count : T → ℕ) (old new : BoardView D T) (before after : Totals) (claim : Claim)
-    → ClaimDoes granted_count old new before after claim → after ≡ after_claim claim before
-claim_share granted_count old new before after (Halted n) does = does.share
-claim_share granted_count old new before after (Granted t) does = does.share
-claim_share granted_count old new before after Drained does = does.share
+pub claim_share : {D T : Type 0} (granted_count : T → ℕ) (hears : T → T → ℕ → ℕ → Type 0) (old new : BoardView D T) (before after : Totals) (claim : Claim)
+    → ClaimDoes granted_count hears old new before after claim → after ≡ after_claim claim before
+claim_share granted_count hears old new before after (Halted n) does = does.share
+claim_share granted_count hears old new before after (Granted t) does = does.share
+claim_share granted_count hears old new before after Drained does = does.share
 
 pub claim_cause : (claim : Claim) → ClaimCause (Unit {0}) (Unit {0}) claim
 claim_cause (Halted n) = tt
 claim_cause (Granted t) = tt
 claim_cause Drained = tt
 
-pub admit_share : {D T : Type 0} (granted_count : T → ℕ) (old new : BoardView D T) (before after : Totals) (admit : Admit)
-    → AdmitDoes granted_count old new before after admit → after ≡ after_admit admit before
-admit_share granted_count old new before after (AdmitHalted n) does = does.share
-admit_share granted_count old new before after (Admitted t) does = does.share
-admit_share granted_count old new before after Taken does = does.share
+pub admit_share : {D T : Type 0} (granted_count : T → ℕ) (hears : T → T → ℕ → ℕ → Type 0) (old new : BoardView D T) (before after : Totals) (admit : Admit)
+    → AdmitDoes granted_count hears old new before after admit → after ≡ after_admit admit before
+admit_share granted_count hears old new before after (AdmitHalted n) does = does.share
+admit_share granted_count hears old new before after (Admitted t) does = does.share
+admit_share granted_count hears old new before after Taken does = does.share
 
 pub admit_cause : (admit : Admit) → AdmitCause (Unit {0}) admit
 admit_cause (AdmitHalted n) = tt

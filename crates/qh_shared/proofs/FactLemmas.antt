@@ -90,29 +90,29 @@ module _ {D T : Type 0} (face : D → Face) (loans : D → List ℕ) (run : RunN
   stays_facts : (old new : BoardView D T) (before after : Totals) → UnderLock face loans run old → StaysAsIs old new before after → UnderLock face loans run new
   stays_facts old new before after is same = subst (UnderLock face loans run) (sym same.board) is
 
-  grants_facts : (granted_count : T → ℕ) (old new : BoardView D T) (before after : Totals) (t : Ticket) → UnderLock face loans run old
-      → Grants granted_count old new before after t → ((range : ℕ) → begun new range ≡ begun old range) → UnderLock face loans run new
-  grants_facts granted_count old new before after t is grants kept =
+  grants_facts : (granted_count : T → ℕ) (hears : T → T → ℕ → ℕ → Type 0) (old new : BoardView D T) (before after : Totals) (t : Ticket) → UnderLock face loans run old
+      → Grants granted_count hears old new before after t → ((range : ℕ) → begun new range ≡ begun old range) → UnderLock face loans run new
+  grants_facts granted_count hears old new before after t is grants kept =
       let to = grants.board in
       still_facts old new is (ap (λ b. b.job) to) (ap (λ b. length b.course.leases) to ∙ length-set old.course.leases t.range _) kept
       (ap (λ b. b.tally.out) to) (ap (λ b. b.journal) to) (ap (λ b. b.course.fault) to)
 
   -- ---- a claim
-  pub claim_facts : (granted_count : T → ℕ) (old new : BoardView D T) (before after : Totals) (claim : Claim) → UnderLock face loans run old
-      → ClaimDoes granted_count old new before after claim → ((range : ℕ) → begun new range ≡ begun old range) → UnderLock face loans run new
-  claim_facts granted_count old new before after (Halted n) is does kept = stays_facts old new before after is does
-  claim_facts granted_count old new before after (Granted t) is does kept = grants_facts granted_count old new before after t is does kept
-  claim_facts granted_count old new before after Drained is does kept =
+  pub claim_facts : (granted_count : T → ℕ) (hears : T → T → ℕ → ℕ → Type 0) (old new : BoardView D T) (before after : Totals) (claim : Claim) → UnderLock face loans run old
+      → ClaimDoes granted_count hears old new before after claim → ((range : ℕ) → begun new range ≡ begun old range) → UnderLock face loans run new
+  claim_facts granted_count hears old new before after (Halted n) is does kept = stays_facts old new before after is does
+  claim_facts granted_count hears old new before after (Granted t) is does kept = grants_facts granted_count hears old new before after t is does kept
+  claim_facts granted_count hears old new before after Drained is does kept =
       let to = does.board in
       still_facts old new is (ap (λ b. b.job) to) (ap (λ b. length b.course.leases) to) kept (ap (λ b. b.tally.out) to) (ap (λ b. b.journal) to)
       (ap (λ b. b.course.fault) to)
 
   -- ---- an admission
-  pub admit_facts : (granted_count : T → ℕ) (old new : BoardView D T) (before after : Totals) (admit : Admit) → UnderLock face loans run old
-      → AdmitDoes granted_count old new before after admit → ((range : ℕ) → begun new range ≡ begun old range) → UnderLock face loans run new
-  admit_facts granted_count old new before after (AdmitHalted n) is does kept = stays_facts old new before after is does
-  admit_facts granted_count old new before after (Admitted t) is does kept = grants_facts granted_count old new before after t is does kept
-  admit_facts granted_count old new before after Taken is does kept = stays_facts old new before after is does
+  pub admit_facts : (granted_count : T → ℕ) (hears : T → T → ℕ → ℕ → Type 0) (old new : BoardView D T) (before after : Totals) (admit : Admit) → UnderLock face loans run old
+      → AdmitDoes granted_count hears old new before after admit → ((range : ℕ) → begun new range ≡ begun old range) → UnderLock face loans run new
+  admit_facts granted_count hears old new before after (AdmitHalted n) is does kept = stays_facts old new before after is does
+  admit_facts granted_count hears old new before after (Admitted t) is does kept = grants_facts granted_count hears old new before after t is does kept
+  admit_facts granted_count hears old new before after Taken is does kept = stays_facts old new before after is does
 
   -- ---- a delivery
   pub deliver_facts : (old new : BoardView D T) (before after : Totals) (r : RangeResult) (delivery : Delivery) → UnderLock face loans run old

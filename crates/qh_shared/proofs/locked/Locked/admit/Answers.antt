@@ -4,7 +4,7 @@ use Rattle.qh_shared.proofs.locked.Locked.admit.Goals as goal
 
 pub invariant_of-self : goal.invariant_of-self
 invariant_of-self g c =
-    admit_facts g.D.Disk.face g.D.Disk.loans g.M.Named.run g.T.Timer.granted_count c.self.inside.board c.admit.new.self c.args.share.now c.admit.new.share c.admit.result
+    admit_facts g.D.Disk.face g.D.Disk.loans g.M.Named.run g.T.Timer.granted_count g.T.Timer.hears c.self.inside.board c.admit.new.self c.args.share.now c.admit.new.share c.admit.result
     c.self.invariant c.admit.ensures.does c.admit.ensures.begun
 
 pub returns-clause-ticket : goal.returns-clause-ticket
@@ -13,7 +13,7 @@ returns-clause-ticket g c =
 
 pub returns-clause-share : goal.returns-clause-share
 returns-clause-share g c =
-    admit_share g.T.Timer.granted_count c.self.inside.board c.admit.new.self c.args.share.now c.admit.new.share c.admit.result c.admit.ensures.does
+    admit_share g.T.Timer.granted_count g.T.Timer.hears c.self.inside.board c.admit.new.self c.args.share.now c.admit.new.share c.admit.result c.admit.ensures.does
 
 pub returns-clause-cause : goal.returns-clause-cause
 returns-clause-cause g c = admit_cause c.admit.result
