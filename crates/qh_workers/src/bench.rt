@@ -20,9 +20,10 @@ pub struct Bench<'a, R, K, W> {
     pub worker: u32,
 }
 
-/// Passes the gate at a point.
+/// Passes the gate at a point: a gate that stops the worker there ends it.
 pub fn pass<W: WorkerGate>(gate: &W, worker: u32, point: Point) -> Result<(), Ended>
-    ensures { IfErr result (λ e. (e ≡ Ended.Quit) × W.may_quit gate.now) }
+    ensures cause { IfErr result (λ e. (e ≡ Ended.Quit) × W.may_quit gate.now) }
+    ensures stopped { W.stops gate.now worker point → result ≡ Err Ended.Quit }
 {
     match gate.pass(worker, point) {
         Pass::Go => Ok(()),

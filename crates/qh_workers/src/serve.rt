@@ -3,7 +3,7 @@ ghost use Rattle.std.specs.Prelude.{◌≡◌, ◌<◌, ◌≤◌, ◌⊎◌, If
 ghost use Rattle.std.specs.Arc.{arc_value};
 ghost use Rattle.qh_plan.specs.Jobs.{ranges};
 ghost use Rattle.qh_workers.specs.Shares.{Grows, one_ack, one_back};
-ghost use Rattle.qh_workers.specs.Ends.{EndCause};
+ghost use Rattle.qh_workers.specs.Ends.{EndCause, IsHeld};
 
 use crate::bench::{Bench, pass};
 use crate::desk::Desk;
@@ -67,6 +67,8 @@ pub fn serve<R: Wait, N: Ledgers, K: Desk<N>, W: WorkerGate, L: Ledger>(
     ensures grows { Grows share.old share.new }
     ensures acked { OnOk result (¬ (K.may_repeat bench.now.desk.now) → share.new ≡ one_ack share.old) }
     ensures back { result ≡ Err Ended.Memory → ¬ (K.may_refuse bench.now.desk.now) → share.new ≡ one_back share.old }
+    ensures stopped { W.stops bench.now.gate.now bench.now.worker (Point.Computing ticket.range) → (result ≡ Err Ended.Quit) × (share.new ≡ share.old) }
+    ensures unacked { IsHeld (W.stops bench.now.gate.now bench.now.worker) ticket.range → share.new.acks ≡ share.old.acks }
     ensures cause { IfErr result (EndCause ⊥ (W.may_quit bench.now.gate.now) (K.may_halt bench.now.desk.now ⊎ K.may_fault bench.now.desk.now)) }
 {
     let range = ticket.range();

@@ -41,6 +41,8 @@ struct NoDelivery;
 impl WorkerGate for NoDelivery {
     ghost may_quit = { λ _. Unit {0} };
 
+    ghost stops = { λ _ _ _. ⊥ };
+
     fn pass(&self, _worker: u32, point: Point) -> Pass {
         match point {
             Point::BeforeDeliver { .. } => Pass::Quit,

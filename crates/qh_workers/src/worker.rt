@@ -1,9 +1,9 @@
 //! The work of one worker.
-ghost use Rattle.std.specs.Prelude.{◌≡◌, ◌+◌, ◌<◌, ◌≤◌, ◌⊎◌, IfErr, OnOk, SomeIff};
+ghost use Rattle.std.specs.Prelude.{◌≡◌, ◌≢◌, ◌+◌, ◌<◌, ◌≤◌, ◌⊎◌, ℕ, IfErr, OnOk, SomeIff};
 ghost use Rattle.std.specs.Arc.{arc_value};
 ghost use Rattle.qh_plan.specs.Jobs.{ranges};
 ghost use Rattle.qh_workers.specs.Shares.{Grows, AllAcked, AllAnswered};
-ghost use Rattle.qh_workers.specs.Ends.{EndCause};
+ghost use Rattle.qh_workers.specs.Ends.{EndCause, IsHeld};
 
 use crate::bench::{Bench, pass};
 use crate::desk::Desk;
@@ -45,6 +45,7 @@ fn serve_drawn<R: Wait, N: Ledgers, K: Desk<N>, W: WorkerGate, L: Ledger>(
     ensures grows { Grows share.old share.new }
     ensures acked { OnOk result (¬ (K.may_repeat bench.now.desk.now) → AllAcked share.old share.new) }
     ensures back { result ≡ Err Ended.Memory → ¬ (K.may_refuse bench.now.desk.now) → AllAnswered share.old share.new }
+    ensures unacked { ((range : ℕ) → IsHeld (W.stops bench.now.gate.now bench.now.worker) range) → share.new.acks ≡ share.old.acks }
     ensures cause { IfErr result (EndCause ⊥ (W.may_quit bench.now.gate.now) (K.may_halt bench.now.desk.now ⊎ K.may_fault bench.now.desk.now)) }
 {
     let Some(range) = range_of(bench.job, number) else {
@@ -72,6 +73,8 @@ fn serve_claimed<R: Wait, N: Ledgers, K: Desk<N>, W: WorkerGate, L: Ledger>(
     ensures acked { OnOk result (¬ (K.may_repeat bench.now.desk.now) → AllAcked share.old share.new) }
     ensures drained { result ≡ Err Ended.Drained → share.new ≡ share.old }
     ensures back { result ≡ Err Ended.Memory → ¬ (K.may_refuse bench.now.desk.now) → AllAnswered share.old share.new }
+    ensures stopped { W.stops bench.now.gate.now bench.now.worker Point.BeforeClaim → (result ≡ Err Ended.Quit) × (share.new ≡ share.old) }
+    ensures unacked { ((range : ℕ) → IsHeld (W.stops bench.now.gate.now bench.now.worker) range) → share.new.acks ≡ share.old.acks }
     ensures cause { IfErr result (EndCause (K.may_drain bench.now.desk.now) (W.may_quit bench.now.gate.now) (K.may_halt bench.now.desk.now ⊎ K.may_fault bench.now.desk.now)) }
 {
     pass(bench.gate, bench.worker, Point::BeforeClaim)?;
@@ -101,6 +104,8 @@ fn serve_draws<R: Wait, N: Ledgers, K: Desk<N>, W: WorkerGate, L: Ledger>(
     ensures grows { Grows share.old share.new }
     ensures acked { OnOk result (¬ (K.may_repeat bench.now.desk.now) → AllAcked share.old share.new) }
     ensures back { result ≡ Err Ended.Memory → ¬ (K.may_repeat bench.now.desk.now) → ¬ (K.may_refuse bench.now.desk.now) → AllAnswered share.old share.new }
+    ensures stopped { W.stops bench.now.gate.now bench.now.worker Point.BeforeClaim → (result ≡ Err Ended.Quit) × (share.new ≡ share.old) }
+    ensures unacked { ((range : ℕ) → IsHeld (W.stops bench.now.gate.now bench.now.worker) range) → share.new.acks ≡ share.old.acks }
     ensures cause { IfErr result (EndCause ⊥ (W.may_quit bench.now.gate.now) (K.may_halt bench.now.desk.now ⊎ K.may_fault bench.now.desk.now)) }
 {
     for _ in 0..u64::from(bench.job.ranges()) + 1 {
@@ -125,6 +130,7 @@ fn serve_claims<R: Wait, N: Ledgers, K: Desk<N>, W: WorkerGate, L: Ledger>(
     ensures grows { Grows share.old share.new }
     ensures acked { result ≡ Ended.Drained → ¬ (K.may_repeat bench.now.desk.now) → AllAcked share.old share.new }
     ensures back { result ≡ Ended.Memory → ¬ (K.may_repeat bench.now.desk.now) → ¬ (K.may_refuse bench.now.desk.now) → AllAnswered share.old share.new }
+    ensures unacked { ((range : ℕ) → IsHeld (W.stops bench.now.gate.now bench.now.worker) range) → share.new.acks ≡ share.old.acks }
     ensures cause { EndCause (K.may_drain bench.now.desk.now) (W.may_quit bench.now.gate.now) (K.may_halt bench.now.desk.now ⊎ K.may_fault bench.now.desk.now) result }
 {
     for _ in bench.rt.forever() {
@@ -164,6 +170,12 @@ pub fn work<R: Wait, N: Ledgers, K: Desk<N>, W: WorkerGate, L: Ledger>(
     ensures drained { result ≡ Ended.Drained → ¬ (K.may_repeat desk.now) → AllAcked share.old share.new }
     // As many as it was granted were acknowledged or given back.
     ensures memory { result ≡ Ended.Memory → ¬ (K.may_repeat desk.now) → ¬ (K.may_refuse desk.now) → AllAnswered share.old share.new }
+
+    // Where the gate stops it at its first point, it does nothing but find memory.
+    ensures stopped { W.stops gate.now worker Point.BeforeClaim → result ≢ Ended.Memory → result ≡ Ended.Quit }
+    ensures idle { W.stops gate.now worker Point.BeforeClaim → share.new ≡ share.old }
+    // Where the gate stops it at each range, before the evaluation or before the delivery, none is acknowledged.
+    ensures unacked { ((range : ℕ) → IsHeld (W.stops gate.now worker) range) → share.new.acks ≡ share.old.acks }
 
     ensures seat { seat.new.of ≡ seat.old.of }
     ensures draws { seat.old.left ≤ seat.new.left + ranges (arc_value job.now) + 1 }

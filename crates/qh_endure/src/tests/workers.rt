@@ -37,6 +37,8 @@ struct QuitGate {
 impl WorkerGate for QuitGate {
     ghost may_quit = { λ _. Unit {0} };
 
+    ghost stops = { λ _ _ _. ⊥ };
+
     fn pass(&self, worker: u32, point: Point) -> Pass {
         if worker != self.worker {
             return Pass::Go;
@@ -53,6 +55,8 @@ struct ShutGate;
 
 impl WorkerGate for ShutGate {
     ghost may_quit = { λ _. Unit {0} };
+
+    ghost stops = { λ _ _ _. Unit {0} };
 
     fn pass(&self, _worker: u32, _point: Point) -> Pass {
         Pass::Quit

@@ -64,6 +64,8 @@ impl Meeting {
 impl WorkerGate for Meeting {
     ghost may_quit = { λ _. Unit {0} };
 
+    ghost stops = { λ _ _ _. ⊥ };
+
     fn pass(&self, worker: u32, point: Point) -> Pass {
         match point {
             Point::Computing { .. } => self.meet(worker),

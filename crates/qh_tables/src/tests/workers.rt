@@ -16,6 +16,8 @@ struct ShutGate;
 impl WorkerGate for ShutGate {
     ghost may_quit = { λ _. Unit {0} };
 
+    ghost stops = { λ _ _ _. Unit {0} };
+
     fn pass(&self, _worker: u32, _point: Point) -> Pass {
         Pass::Quit
     }
