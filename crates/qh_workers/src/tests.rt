@@ -1,5 +1,5 @@
 //! Workers over fake desks and gates: what no contract says is the order of their calls.
-ghost use Rattle.std.specs.Prelude.{◌≡◌, ◌<◌, ◌≤◌, ◌+◌, ℕ, [], Bool, true, false, All, IfSome, IsTrue};
+ghost use Rattle.std.specs.Prelude.{◌≡◌, ◌<◌, ◌≤◌, ◌+◌, [], Bool, true, false, All, IfSome, IsTrue};
 ghost use Rattle.std.specs.Arc.{arc_value};
 ghost use Rattle.qh_lease.specs.Register.{IsBlankOf};
 ghost use Rattle.qh_lease.specs.Tally.{nothing};
@@ -41,7 +41,7 @@ struct NoDelivery;
 impl WorkerGate for NoDelivery {
     ghost may_quit = { λ _. Unit {0} };
 
-    ghost stops = { λ _ _ point. (range : ℕ) × (point ≡ Point.BeforeDeliver range) };
+    ghost stops = { λ _ _ _. ⊥ };
 
     fn pass(&self, _worker: u32, point: Point) -> Pass {
         match point {
