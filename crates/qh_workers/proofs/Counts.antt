@@ -1,7 +1,7 @@
 -- What a share counts over several calls.
 use Rattle.std.proofs.Common.{◌≡◌, ◌+◌, Result, Ok, Err, OnOk, ap, ◌∙◌, arith}
 use Rattle.qh_lease.specs.declared.totals.Totals.{Totals}
-use Rattle.qh_workers.specs.Shares.{AllAcked, one_grant, one_ack}
+use Rattle.qh_workers.specs.Shares.{AllAcked, AllAnswered, one_grant, one_ack}
 
 -- a grant and then an acknowledgement
 grant_and_ack : (old mid new : Totals) → mid ≡ one_grant old → new ≡ one_ack mid → AllAcked old new
@@ -18,3 +18,18 @@ pub served : {T E : Type 0} (r : Result T E) (repeat : Type 0) (old mid new : To
     → OnOk r (¬ repeat → AllAcked old new)
 served (Ok x) repeat old mid new p h = λ no. grant_and_ack old mid new p (h no)
 served (Err e) repeat old mid new p h = tt
+
+-- ---- one stretch of work after another
+module _ (old mid new : Totals) (before : AllAcked old mid) where
+  pub acked_on : AllAcked mid new → AllAcked old new
+  acked_on after =
+      let first : mid.acks + old.grants ≡ old.acks + mid.grants = before.acks in
+      let then : new.acks + mid.grants ≡ mid.acks + new.grants = after.acks in
+      record { acks = omega arith; backs = after.backs ∙ before.backs }
+
+  pub answered_on : AllAnswered mid new → AllAnswered old new
+  answered_on after =
+      let first : mid.acks + old.grants ≡ old.acks + mid.grants = before.acks in
+      let none : mid.backs ≡ old.backs = before.backs in
+      let then : new.acks + new.backs + mid.grants ≡ mid.acks + mid.backs + new.grants = after.answers in
+      record { answers = omega arith }
