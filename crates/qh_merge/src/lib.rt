@@ -7,6 +7,8 @@
 mod run;
 mod say;
 mod stop;
+#[cfg(test)]
+mod tests;
 
 pub use qh_union::{MAX_INPUTS, MergeFault, Merged, merge};
 pub use run::merge_run;
