@@ -1,7 +1,8 @@
 //! A timer that reads the clock.
-ghost use Rattle.std.specs.Prelude.{◌≡◌, ◌≤◌, ◌⊎◌, Some, None, true, false};
+ghost use Rattle.std.specs.Prelude.{◌≡◌, ◌≤◌, ◌⊎◌, Some, None, Bool, true, false, slice_index_or, IsTrue, map, is_some, set};
 ghost use Rattle.std.specs.Bool.{OnTrue, OnFalse};
 ghost use Rattle.qh_counts.specs.Counts.{raised, Rose};
+ghost use Rattle.qh_lease.specs.TimerState.{Notes, MayAnswer};
 
 use crate::timer::Timer;
 use crate::timer_counts::TimerCounts;
@@ -15,7 +16,8 @@ use std::time::Instant;
 ///
 /// Without a number of seconds no lease is ever due. With 0 seconds each is due at once, and the clock is
 /// not asked. From 1 second on, a lease whose grant or age the clock could not tell is not due. No clause
-/// speaks of what the clock says: contracts see the number of seconds and the three counts.
+/// speaks of what the clock says: contracts see the number of seconds, the three counts, and of which ranges
+/// it knows when they were granted last.
 pub struct ClockTimer<'r, R: Clock> {
     rt: &'r R,
     seconds: Option<u64>,
@@ -24,11 +26,12 @@ pub struct ClockTimer<'r, R: Clock> {
 }
 
 impl<'r, R: Clock> Model for ClockTimer<'r, R> {
+    ghost use Rattle.std.specs.Prelude.{map, is_some};
     ghost use Rattle.qh_lease.specs.TimerState.{Watch};
 
     ghost Value = { Watch };
 
-    ghost view = { λ t. record { seconds = t.seconds; granted = t.counts.granted; due = t.counts.due; not_due = t.counts.not_due } };
+    ghost view = { λ t. record { seconds = t.seconds; granted = t.counts.granted; due = t.counts.due; not_due = t.counts.not_due; timed = map is_some t.since.items } };
 }
 
 impl<'r, R: Clock> Drop for ClockTimer<'r, R> {
@@ -75,7 +78,9 @@ impl<'r, R: Clock + Sync> ClockTimer<'r, R> {
 
 impl<'r, R: Clock> ClockTimer<'r, R> {
     // Whether the lease of a range has lasted so many seconds, as far as the clock can tell.
-    fn has_lasted(&self, range: u32, seconds: u64) -> bool {
+    fn has_lasted(&self, range: u32, seconds: u64) -> bool
+        ensures { IsTrue result → slice_index_or self.now.timed range false ≡ true }
+    {
         match self.since.get(range as usize) {
             Some(Some(since)) => match since.elapsed(self.rt) {
                 Ok(passed) => passed.as_secs() >= seconds,
@@ -86,6 +91,17 @@ impl<'r, R: Clock> ClockTimer<'r, R> {
     }
 }
 
+// Notes when a range was granted, as far as the clock can tell.
+fn note_time<R: Clock>(rt: &R, since: &mut Vec<Option<Instant>>, range: u32)
+    ensures { (known : Bool) × (map is_some since.new.items ≡ set (map is_some since.old.items) range known) }
+{
+    let place = range as usize;
+    if place >= since.len() {
+        return;
+    }
+    since[place] = Instant::now(rt).ok();
+}
+
 impl<'r, R: Clock> Timer for ClockTimer<'r, R> {
     ghost granted_count = { λ t. t.granted };
 
@@ -93,18 +109,21 @@ impl<'r, R: Clock> Timer for ClockTimer<'r, R> {
 
     ghost not_due_count = { λ t. t.not_due };
 
+    ghost hears = { λ old new range _. Notes old new range };
+
+    ghost may_say = { λ t range _ answer. MayAnswer t range answer };
+
     /// Notes when a range was granted.
     fn granted(&mut self, range: u32, _attempt: u32)
         ensures granted { Rose self.old.granted self.new.granted }
         ensures granted_kept { self.old.granted ≤ self.new.granted }
         ensures due { self.new.due ≡ self.old.due }
         ensures not_due { self.new.not_due ≡ self.old.not_due }
+        ensures heard { Notes self.old self.new range }
         ensures once { self.new.granted ≡ raised self.old.granted }
         ensures seconds { self.new.seconds ≡ self.old.seconds }
     {
-        if let Some(since) = self.since.get_mut(range as usize) {
-            *since = Instant::now(self.rt).ok();
-        }
+        note_time(self.rt, &mut self.since, range);
         self.counts.count_granted();
     }
 
@@ -117,11 +136,13 @@ impl<'r, R: Clock> Timer for ClockTimer<'r, R> {
         ensures not_due_stays { OnTrue result (self.new.not_due ≡ self.old.not_due) }
         ensures due_kept { self.old.due ≤ self.new.due }
         ensures not_due_kept { self.old.not_due ≤ self.new.not_due }
+        ensures said { MayAnswer self.old range result }
 
         // The counts that rise, exactly.
         ensures due_once { OnTrue result (self.new.due ≡ raised self.old.due) }
         ensures not_due_once { OnFalse result (self.new.not_due ≡ raised self.old.not_due) }
         ensures seconds { self.new.seconds ≡ self.old.seconds }
+        ensures timed { self.new.timed ≡ self.old.timed }
         ensures never { self.old.seconds ≡ None → result ≡ false }
         ensures at_once { self.old.seconds ≡ Some 0 → result ≡ true }
     {

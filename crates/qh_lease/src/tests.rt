@@ -111,10 +111,12 @@ fn a_full_table_is_granted_sixteen_times(rt: HostRuntime) -> Result<(), Fail> {
 #[test]
 fn a_script_is_followed_to_its_end(rt: HostRuntime) -> Result<(), Fail> {
     let mut timer = ScriptTimer::new(rt.alloc(), &[true, false, true])?;
-    timer.granted(0, 1);
+    assert_eq!(rt; timer.last_grant(), None);
+    timer.granted(5, 2);
     for want in [true, false, true, false, false] {
         assert_eq!(rt; timer.due(0, 1), want);
     }
+    assert_eq!(rt; timer.last_grant(), Some((5, 2)));
     Ok(())
 }
 

@@ -12,8 +12,6 @@ mod rest;
 mod run;
 mod stop;
 mod sweep;
-#[cfg(test)]
-mod tests;
 mod worker;
 
 pub use ended::{Ran, RunEnd};

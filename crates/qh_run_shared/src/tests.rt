@@ -15,6 +15,7 @@ use std::sync::{Arc, Wait};
 use std::test::Fail;
 use std::thread::Threads;
 
+mod alone;
 mod counted;
 mod meeting;
 

@@ -14,8 +14,6 @@ mod shared;
 mod shared_answer;
 mod shared_call;
 mod table;
-#[cfg(test)]
-mod tests;
 
 pub use alone::qsimh_alone;
 pub use names::{Names, file_names};

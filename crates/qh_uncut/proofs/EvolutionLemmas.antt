@@ -1,7 +1,7 @@
 -- The state after some gates, and the list that the code keeps of it.
-use Rattle.std.proofs.Common.{◌≡◌, ℕ, ◌+◌, ◌^◌, ◌<◌, ◌≤◌, ◌⊎◌, inl, inr, Bool, true, false, cond, List, [], ◌∷◌, ◌++◌, length, map, take, drop, get_or, arith, refl, sym, ap, subst, ◌∙◌, ◌==◌}
+use Rattle.std.proofs.Common.{◌≡◌, ℕ, ◌+◌, ◌^◌, ◌<◌, ◌≤◌, ◌⊎◌, inl, inr, Bool, true, false, cond, List, [], ◌∷◌, ◌++◌, length, map, take, get_or, arith, refl, sym, ap, subst, ◌∙◌, ◌==◌}
 use Rattle.std.specs.List.{All}
-use Rattle.std.proofs.lemmas.List.{take_more, take_at, map-append}
+use Rattle.std.proofs.lemmas.List.{take_more, map-append}
 use Rattle.std.proofs.lemmas.List.Elements.{All-from_get_or}
 use Rattle.std.proofs.lemmas.Bool.{cases_lt}
 use Rattle.qh_ring.specs.declared.number.Omega.{Omega}
@@ -107,10 +107,3 @@ pub gate_over : (c : Circuit) (gs : List Gate) (n : ℕ) (z : Gate) (v : List Om
 gate_over c gs n z v e h l d over =
     let m : n < length c.gates = subst (λ (xs : List Gate). n < length xs) e l in
     first_over c n z v m (h.fit n z m) d (λ all. over (subst (All (IsWithin 126)) (sym (same_gate c gs n z v e)) all))
-
--- what a `Vec` holds once its slice was written whole
-pub written_whole : (n : ℕ) (xs ys : List Omega) → n ≡ length ys → length xs ≡ length ys → take n (xs ++ drop (length xs) ys) ≡ xs
-written_whole n xs ys e f = take_at xs (drop (length xs) ys) n (same n xs ys e f)
-  where
-    same : (n : ℕ) (xs ys : List Omega) → n ≡ length ys → length xs ≡ length ys → length xs ≡ n
-    same n xs ys e f = omega arith

@@ -2,3 +2,4 @@
 pub mod EvolutionLemmas
 pub mod BoundLemmas
 pub mod EntryLemmas
+pub mod StateLemmas

@@ -1,5 +1,4 @@
-use Rattle.qh_uncut.proofs.EvolutionLemmas.{IsRunning}
 use Rattle.qh_uncut.proofs.evolution.evolve.Given as goal
 
-abbrev pub invariant-loop-i : goal.invariant-loop-i
-invariant-loop-i l = IsRunning l.circuit l.i l.v.items
+abbrev pub ghosts-evolve_counted : goal.ghosts-evolve_counted
+ghosts-evolve_counted a = record { name = a.blank.name; parts = a.blank.parts }

@@ -1,9 +1,9 @@
 //! Rows that workers run: each gives what one caller gives.
 use super::{NO_FAULT, Row, bell, strings, two};
-use crate::{Ran, qsimh};
 use qh_disk::MemDisk;
 use qh_io::{MemSink, MemSource};
 use qh_lease::ScriptTimer;
+use qh_top::{Ran, qsimh};
 use qh_workers::{FreeGate, Pass, Point, WorkerGate};
 use std::process::Abort;
 use std::sync::Wait;

@@ -3,10 +3,10 @@ mod cheapest;
 mod probs;
 mod workers;
 
-use crate::qsimh_alone;
 use qh_disk::MemDisk;
 use qh_io::{MemSink, MemSource};
 use qh_lease::ScriptTimer;
+use qh_top::qsimh_alone;
 use std::alloc::{AllocError, Global};
 use std::process::Abort;
 use std::test::Fail;

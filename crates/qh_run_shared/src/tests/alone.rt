@@ -1,10 +1,10 @@
-//! Runs of a job of two ranges: over disks in memory, and without a journal.
-use crate::{Ran, RunEnd, run_kept, run_unkept};
+//! Runs of a job of two ranges by one caller: over disks in memory, and without a journal.
 use qh_disk::MemDisk;
 use qh_job_text::read_job_text;
 use qh_lease::ScriptTimer;
 use qh_plan::Job;
 use qh_ring::Omega;
+use qh_run::{Ran, RunEnd, run_kept, run_unkept};
 use qh_slots::AttachFault;
 use std::alloc::Global;
 use std::process::Abort;
