@@ -8,5 +8,5 @@ folder=$(cd -- "$1" && pwd)
 array=$(sbatch --parsable --requeue --array=0-3 --output="$folder/%a.log" \
   --wrap "exec '$here/prefix.sh' \"\$SLURM_ARRAY_TASK_ID\" '$folder'")
 sbatch --wait --dependency="afterok:$array" --output="$folder/merge.log" \
-  --wrap "exec '$here/merge.sh' '$folder' >'$folder/amplitudes'"
+  --wrap "exec '$here/merge.sh' '$folder' >'$folder/amplitudes'" >&2
 cat -- "$folder/amplitudes"
