@@ -1,5 +1,5 @@
 -- Halves of even lanes.
-use Rattle.std.proofs.Common.{◌≡◌, ℕ, ◌<◌, ◌≤◌, ◌^◌, ℤ, pos, negsuc, List, map, length, sym, ap, subst, ◌∙◌, arith, ◌+ℤ◌, neg_ℤ, replicate}
+use Rattle.std.proofs.Common.{◌≡◌, ℕ, ◌<◌, ◌≤◌, ◌^◌, ℤ, pos, negsuc, List, map, length, sym, ap, subst, ◌∙◌, arith, ◌+ℤ◌, replicate}
 use Rattle.std.proofs.Math.Path.{ap₂}
 use Rattle.std.specs.Simd.Lanes.{zip2}
 use Rattle.std.proofs.lemmas.Int.{ints}
@@ -7,9 +7,9 @@ use Rattle.std.proofs.lemmas.List.{get_or-map, length-map}
 use Rattle.std.proofs.lemmas.Simd.{get_or-zip2, length-zip2, length-replicate, get_or-replicate}
 use Rattle.qh_ring.specs.Numbers.{IsBelow}
 use Rattle.qh_vectors.specs.Lanes.{at_lane, AreBelow, IsEven}
-use Rattle.qh_vectors.proofs.WordLemmas.{word_back, back}
+use Rattle.qh_vectors.proofs.WordLemmas.{word_back}
 use Rattle.qh_vectors.proofs.BoundLemmas.{below_more}
-use lib.Signed.{shr_z, rem_z}
+use lib.Signed.{shr_z}
 use mir.Syntax.{Width}
 use mir.Val.{to_z, of_z, hbits}
 
@@ -49,16 +49,3 @@ halves_below w n bits xs room h even = record {
       ∙ length-zip2 (word_shift w) (map (of_z w) xs) (replicate n 1) (length-map xs (of_z w) ∙ h.len ∙ sym (length-replicate n 1)) ∙ length-map xs (of_z w) ∙ h.len;
   each = λ r l. subst (IsBelow bits) (sym (halves_are w n bits xs room h even r l)) (half_below bits (at_lane xs r) (even r l) (h.each r l));
 }
-
--- the remainder of an even number
-even_rest : (z : ℤ) → IsEven z → rem_z z (pos 2) ≡ pos 0
-even_rest (pos n) e = ap pos e
-even_rest (negsuc n) e = ap (λ k. neg_ℤ (pos k)) e
-
--- an even lane, stored and read back, leaves no remainder
-pub even_lane : (w : Width) (n : ℕ) (v : List ℤ) (r : ℕ) → r < n → AreBelow n (hbits w) v → IsEven (at_lane v r)
-    → of_z w (rem_z (to_z w (of_z w (at_lane (map (to_z w) (map (of_z w) v)) r))) (pos 2)) ≡ 0
-even_lane w n v r l h e =
-    ap (λ (u : List ℤ). of_z w (rem_z (to_z w (of_z w (at_lane u r))) (pos 2))) (back w n v h)
-    ∙ ap (λ z. of_z w (rem_z z (pos 2))) (word_back w (at_lane v r) (h.each r l))
-    ∙ ap (of_z w) (even_rest (at_lane v r) e)

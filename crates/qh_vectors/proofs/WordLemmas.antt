@@ -38,10 +38,10 @@ back_each w (x ∷ xs) a = ap₂ (λ y ys. y ∷ ys) (word_back w x a.0) (back_e
 pub back : (w : Width) (n : ℕ) (v : List ℤ) → AreBelow n (hbits w) v → map (to_z w) (map (of_z w) v) ≡ v
 back w n v h = back_each w v (each_below n (hbits w) v h)
 
-less_than : (a b x : ℕ) (z : ℤ) → a < b → unsigned_abs z < 2 ^ a → unsigned_abs z < 2 ^ b
-less_than a b x z l h = let p : 2 ^ a ≤ 2 ^ b = pow_mono (omega arith) in omega arith
+less_than : (a b x : ℕ) (z : ℤ) → a ≤ b → unsigned_abs z < 2 ^ a → unsigned_abs z < 2 ^ b
+less_than a b x z l h = let p : 2 ^ a ≤ 2 ^ b = pow_mono l in omega arith
 
-within_word : (w : Width) (bits : ℕ) (x : ℤ) → bits < hbits w → IsBelow bits x → IsBelow (hbits w) x
+within_word : (w : Width) (bits : ℕ) (x : ℤ) → bits ≤ hbits w → IsBelow bits x → IsBelow (hbits w) x
 within_word w bits x l h = less_than bits (hbits w) 0 x l h
 
 abs_sum : (a b : ℕ) (x y : ℤ) → a + 1 ≤ b → unsigned_abs x < 2 ^ a → unsigned_abs y < 2 ^ a → unsigned_abs (x +ℤ y) < 2 ^ b
@@ -62,13 +62,13 @@ word_zero w = word_back w (pos 0) (zero_below (hbits w))
 sum_fits : (w : Width) (bits : ℕ) (x y : ℤ) → bits < hbits w → IsBelow bits x → IsBelow bits y → FitsSigned w (x +ℤ y)
 sum_fits w bits x y l a b = fits_signed_from_abs w (x +ℤ y) (abs_sum bits (hbits w) x y (omega arith) a b)
 
-neg_fits : (w : Width) (bits : ℕ) (y : ℤ) → bits < hbits w → IsBelow bits y → FitsSigned w (pos 0 -ℤ y)
+neg_fits : (w : Width) (bits : ℕ) (y : ℤ) → bits ≤ hbits w → IsBelow bits y → FitsSigned w (pos 0 -ℤ y)
 neg_fits w bits y l b = fits_signed_from_abs w (pos 0 -ℤ y) (abs_neg (2 ^ hbits w) y (within_word w bits y l b))
 
 sum_read : (w : Width) (bits : ℕ) (x y : ℤ) → bits < hbits w → IsBelow bits x → IsBelow bits y → to_z w (of_z w x) +ℤ to_z w (of_z w y) ≡ x +ℤ y
-sum_read w bits x y l a b = ap₂ (λ s t. s +ℤ t) (word_back w x (within_word w bits x l a)) (word_back w y (within_word w bits y l b))
+sum_read w bits x y l a b = ap₂ (λ s t. s +ℤ t) (word_back w x (within_word w bits x (omega arith) a)) (word_back w y (within_word w bits y (omega arith) b))
 
-difference_read : (w : Width) (bits : ℕ) (y : ℤ) → bits < hbits w → IsBelow bits y → to_z w 0 -ℤ to_z w (of_z w y) ≡ pos 0 -ℤ y
+difference_read : (w : Width) (bits : ℕ) (y : ℤ) → bits ≤ hbits w → IsBelow bits y → to_z w 0 -ℤ to_z w (of_z w y) ≡ pos 0 -ℤ y
 difference_read w bits y l b = ap₂ (λ s t. s -ℤ t) (word_zero w) (word_back w y (within_word w bits y l b))
 
 -- ---- no sum and no negation wraps
@@ -80,12 +80,12 @@ adds_each w bits (x ∷ xs) (y ∷ ys) l a b = (subst (FitsSigned w) (sym (sum_r
 pub adds : (w : Width) (n bits : ℕ) (xs ys : List ℤ) → bits < hbits w → AreBelow n bits xs → AreBelow n bits ys → Each2 (λ m n. FitsSigned w (to_z w m +ℤ to_z w n)) (map (of_z w) xs) (map (of_z w) ys)
 adds w n bits xs ys l a b = adds_each w bits xs ys l (each_below n bits xs a) (each_below n bits ys b)
 
-negs_each : (w : Width) (bits n : ℕ) (ys : List ℤ) → bits < hbits w → Each1 (IsBelow bits) ys → Each2 (λ m n. FitsSigned w (to_z w m -ℤ to_z w n)) (replicate n 0) (map (of_z w) ys)
+negs_each : (w : Width) (bits n : ℕ) (ys : List ℤ) → bits ≤ hbits w → Each1 (IsBelow bits) ys → Each2 (λ m n. FitsSigned w (to_z w m -ℤ to_z w n)) (replicate n 0) (map (of_z w) ys)
 negs_each w bits zero ys l b = tt
 negs_each w bits (suc n) [] l b = tt
 negs_each w bits (suc n) (y ∷ ys) l b = (subst (FitsSigned w) (sym (difference_read w bits y l b.0)) (neg_fits w bits y l b.0), negs_each w bits n ys l b.1)
 
-pub negs : (w : Width) (n bits : ℕ) (ys : List ℤ) → bits < hbits w → AreBelow n bits ys → Each2 (λ m n. FitsSigned w (to_z w m -ℤ to_z w n)) (replicate n 0) (map (of_z w) ys)
+pub negs : (w : Width) (n bits : ℕ) (ys : List ℤ) → bits ≤ hbits w → AreBelow n bits ys → Each2 (λ m n. FitsSigned w (to_z w m -ℤ to_z w n)) (replicate n 0) (map (of_z w) ys)
 negs w n bits ys l b = negs_each w bits n ys l (each_below n bits ys b)
 
 -- ---- what each lane is
@@ -121,7 +121,7 @@ negations_length w n ys f =
 minus : (y : ℤ) → pos 0 -ℤ y ≡ neg_ℤ y
 minus y = omega (arith, ints)
 
-pub negations_lane : (w : Width) (n bits : ℕ) (ys : List ℤ) → bits < hbits w → AreBelow n bits ys → (r : ℕ) → r < n
+pub negations_lane : (w : Width) (n bits : ℕ) (ys : List ℤ) → bits ≤ hbits w → AreBelow n bits ys → (r : ℕ) → r < n
     → at_lane (map (to_z w) (zip2 (word_difference w) (replicate n 0) (map (of_z w) ys))) r ≡ neg_ℤ (at_lane ys r)
 negations_lane w n bits ys room b r l =
     let lx : length (replicate {A = ℕ} n 0) ≡ n = length-replicate n 0 in

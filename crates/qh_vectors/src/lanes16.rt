@@ -97,13 +97,12 @@ impl Vector for i16x16 {
 
     #[inline(always)]
     fn is_even(self) -> bool {
-        let lanes = self.to_array();
-        for r in 0..16usize {
-            if lanes[r] % 2 != 0 {
-                return false;
-            }
-        }
-        true
+        (self & i16x16::splat(1)).simd_eq(i16x16::splat(0)).all()
+    }
+
+    #[inline(always)]
+    fn larger(self, other: Self) -> Self {
+        self.strict_abs().simd_max(other.strict_abs())
     }
 
     #[inline(always)]

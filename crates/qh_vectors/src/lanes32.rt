@@ -79,13 +79,12 @@ impl Vector for i32x8 {
 
     #[inline(always)]
     fn is_even(self) -> bool {
-        let lanes = self.to_array();
-        for r in 0..8usize {
-            if lanes[r] % 2 != 0 {
-                return false;
-            }
-        }
-        true
+        (self & i32x8::splat(1)).simd_eq(i32x8::splat(0)).all()
+    }
+
+    #[inline(always)]
+    fn larger(self, other: Self) -> Self {
+        self.strict_abs().simd_max(other.strict_abs())
     }
 
     #[inline(always)]

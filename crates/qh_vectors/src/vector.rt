@@ -80,6 +80,14 @@ pub trait Vector: Copy {
         requires { AreBelow (2 ^ PLACES) ROOM (lanes self) }
         ensures { IsTrue result ↔ ((r : ℕ) → r < 2 ^ PLACES → IsEven (at_lane (lanes self) r)) };
 
+    /// The larger magnitude in each lane.
+    fn larger(self, other: Self) -> Self
+        requires below { AreBelow (2 ^ PLACES) ROOM (lanes self) }
+        requires other { AreBelow (2 ^ PLACES) ROOM (lanes other) }
+        ensures above { (b : ℕ) → AreBelow (2 ^ PLACES) b (lanes self) → AreBelow (2 ^ PLACES) b (lanes other) → AreBelow (2 ^ PLACES) b (lanes result) }
+        ensures self_below { (b : ℕ) → AreBelow (2 ^ PLACES) b (lanes result) → AreBelow (2 ^ PLACES) b (lanes self) }
+        ensures other_below { (b : ℕ) → AreBelow (2 ^ PLACES) b (lanes result) → AreBelow (2 ^ PLACES) b (lanes other) };
+
     /// The greatest magnitude.
     fn most(self) -> u64
         requires { AreBelow (2 ^ PLACES) ROOM (lanes self) }
