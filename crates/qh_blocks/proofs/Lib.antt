@@ -7,6 +7,7 @@ pub mod WidthLemmas
 pub mod PairLemmas
 pub mod QuadLemmas
 pub mod FitLemmas
+pub mod FactorLemmas
 mod LaneLemmas
 mod RowLemmas
 mod GroundLemmas

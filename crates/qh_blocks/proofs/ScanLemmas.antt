@@ -1,38 +1,57 @@
--- The greatest magnitude of a state so far.
-use Rattle.std.proofs.Common.{◌≡◌, ℕ, ◌+◌, ◌<◌, ◌≤◌, ◌^◌, ℤ, List, length, get_or, arith, inl, inr, max, ◌*◌, sym, subst, ◌∙◌}
+-- The greatest magnitudes of a state so far.
+use Rattle.std.proofs.Common.{◌≡◌, ℕ, ◌+◌, ◌<◌, ◌≤◌, ◌^◌, ℤ, pos, List, length, get_or, arith, inl, inr, replicate, unsigned_abs, ◌*◌, sym, subst, ◌∙◌}
 use Rattle.std.proofs.Math.Path.{ap₂}
 use Rattle.std.proofs.lemmas.List.{get_or-map, get_or_default}
 use Rattle.std.specs.List.{All}
-use Rattle.std.proofs.lemmas.Nat.{pow_pos, mul-le}
+use Rattle.std.proofs.lemmas.Nat.{mul-le}
 use Rattle.std.proofs.lemmas.Bool.{cases_eq}
 use Rattle.qh_ring.specs.Numbers.{IsWithin, nothing}
+use Rattle.qh_vectors.specs.Lanes.{at_lane, AreBelow}
 use Rattle.qh_blocks.specs.declared.block.Block.{Block}
 use Rattle.qh_blocks.specs.Blocks.{lane, IsBlock}
 use Rattle.qh_blocks.specs.Numbers.{numbers, number_in_block}
 use Rattle.qh_blocks.proofs.NumbersLemmas.{length_numbers, number_of_list, div_of, mod_of}
+use Rattle.qh_blocks.proofs.GroundLemmas.{zeros_below}
 
-pub record IsMostOf {V : Type 0} (lanes : V → List ℤ) (w : ℕ) (v : List (Block V)) (n most : ℕ) : Type 0 where
-  pub above : (b : ℕ) → most < 2 ^ b → (k : ℕ) (d : Block V) → k < n → k < length v → IsBlock lanes w b (get_or v k d)
-  pub least : (b : ℕ) → All (IsBlock lanes w b) v → most < 2 ^ b
+-- the greatest magnitude of each lane in the blocks below n
+pub record IsMostOf {V : Type 0} (lanes : V → List ℤ) (w room : ℕ) (v : List (Block V)) (n : ℕ) (most : List ℤ) : Type 0 where
+  pub below : AreBelow w room most
+  pub above : (b : ℕ) → AreBelow w b most → (k : ℕ) (d : Block V) → k < n → k < length v → IsBlock lanes w b (get_or v k d)
+  pub least : (b : ℕ) → All (IsBlock lanes w b) v → AreBelow w b most
 
-pub blocks_none : {V : Type 0} (lanes : V → List ℤ) (w : ℕ) (v : List (Block V)) → IsMostOf lanes w v 0 0
-blocks_none lanes w v = record { above = λ b l k d m. absurd (omega arith); least = λ b h. pow_pos b }
+pub blocks_none : {V : Type 0} (lanes : V → List ℤ) (w room : ℕ) (v : List (Block V)) (most : List ℤ) → most ≡ replicate w (pos 0) → IsMostOf lanes w room v 0 most
+blocks_none lanes w room v most e = record {
+  below = zeros_below w room most e;
+  above = λ b l k d m. absurd (omega arith);
+  least = λ b h. zeros_below w b most e;
+}
 
-pub blocks_next : {V : Type 0} (lanes : V → List ℤ) (w : ℕ) (v : List (Block V)) (n most one new : ℕ) (x : Block V) → n < length v → IsMostOf lanes w v n most → new ≡ max most one
-    → x ≡ get_or v n x → ((b : ℕ) → one < 2 ^ b → IsBlock lanes w b x) → ((b : ℕ) → IsBlock lanes w b x → one < 2 ^ b) → IsMostOf lanes w v (n + 1) new
-blocks_next lanes w v n most one new x l h e ex ha hl = record {
+-- the larger magnitudes of two lists
+pub record AreLarger (w : ℕ) (xs ys zs : List ℤ) : Type 0 where
+  pub above : (b : ℕ) → AreBelow w b xs → AreBelow w b ys → AreBelow w b zs
+  pub first : (b : ℕ) → AreBelow w b zs → AreBelow w b xs
+  pub second : (b : ℕ) → AreBelow w b zs → AreBelow w b ys
+
+pub blocks_next : {V : Type 0} (lanes : V → List ℤ) (w room : ℕ) (v : List (Block V)) (n : ℕ) (most one new : List ℤ) (x : Block V) → n < length v → All (IsBlock lanes w room) v → IsMostOf lanes w room v n most → x ≡ get_or v n x
+    → ((b : ℕ) → IsBlock lanes w b x → AreBelow w b one) → ((b : ℕ) → AreBelow w b one → IsBlock lanes w b x) → AreLarger w most one new → IsMostOf lanes w room v (n + 1) new
+blocks_next lanes w room v n most one new x l fits h ex ha hb larger = record {
+  below = larger.above room h.below (ha room (here room fits));
   above = λ b k m d lm ll. elim (cases_eq m n) [
-    | inl f ↦ rw f (subst (IsBlock lanes w b) (ex ∙ sym (same v n x d l ex)) (ha b (omega arith)))
-    | inr ne ↦ h.above b (omega arith) m d (omega arith) ll
+    | inl f ↦ rw f (subst (IsBlock lanes w b) (ex ∙ sym (get_or_default v n d x l)) (hb b (larger.second b k)))
+    | inr ne ↦ h.above b (larger.first b k) m d (omega arith) ll
   ];
-  least = λ b k. let i = h.least b k in let j = hl b (subst (IsBlock lanes w b) (sym ex) (k n x l)) in omega arith;
+  least = λ b k. larger.above b (h.least b k) (ha b (here b k));
 }
   where
-    same : {A : Type 0} (v : List A) (n : ℕ) (x d : A) → n < length v → x ≡ get_or v n x → get_or v n d ≡ get_or v n x
-    same v n x d l e = get_or_default v n d x l
+    here : (b : ℕ) → All (IsBlock lanes w b) v → IsBlock lanes w b x
+    here b k = subst (IsBlock lanes w b) (sym ex) (k n x l)
 
-pub blocks_all : {V : Type 0} (lanes : V → List ℤ) (w : ℕ) (v : List (Block V)) (n most b : ℕ) → length v ≤ n → IsMostOf lanes w v n most → most < 2 ^ b → All (IsBlock lanes w b) v
-blocks_all lanes w v n most b e h l = λ k d m. h.above b l k d (omega arith) m
+-- lanes by their greatest magnitude
+pub lanes_below : (w room b most : ℕ) (v : List ℤ) → AreBelow w room v → ((r : ℕ) → r < w → unsigned_abs (at_lane v r) ≤ most) → most < 2 ^ b → AreBelow w b v
+lanes_below w room b most v h e l = record { len = h.len; each = λ r m. let f = e r m in omega arith }
+
+pub blocks_all : {V : Type 0} (lanes : V → List ℤ) (w room : ℕ) (v : List (Block V)) (n : ℕ) (most : List ℤ) (b : ℕ) → length v ≤ n → IsMostOf lanes w room v n most → AreBelow w b most → All (IsBlock lanes w b) v
+blocks_all lanes w room v n most b e h l = λ k d m. h.above b l k d (omega arith) m
 
 -- the bound of the numbers is that of the blocks
 pub blocks_of_numbers : {V : Type 0} (lanes : V → List ℤ) (p bits b : ℕ) (v : List (Block V)) → All (IsBlock lanes (2 ^ p) bits) v → All (IsWithin b) (numbers lanes p v) → All (IsBlock lanes (2 ^ p) b) v

@@ -2,10 +2,12 @@
 //!
 //! A block has the numbers a + bω + cω² + dω³ of as many indices as a vector has lanes, in four vectors. The lowest qubits
 //! act within a block, the others exchange and add whole blocks. One call goes once over the blocks, takes no memory,
-//! and tests nothing per number: it is told a bound of the coefficients. It keeps no state.
+//! and tests nothing per number: it is told a bound of the coefficients. `take_roots` alone goes over them again, for each
+//! factor 2 or √2 that all numbers have in common. It keeps no state.
 #![tactic(auto)]
 
 mod block;
+mod factor;
 mod fit;
 mod groups;
 mod lanes;
@@ -17,6 +19,7 @@ mod scan;
 mod two_qubits;
 
 pub use block::{Block, ground_blocks};
+pub use factor::take_roots;
 pub use fit::{fits_after, width_of};
 pub use one_qubit::apply1;
 pub use scan::bits_of;

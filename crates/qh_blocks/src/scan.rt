@@ -1,9 +1,22 @@
 //! The true bound of a state.
 ghost use Rattle.std.specs.Prelude.{◌≡◌, ◌<◌, ◌≤◌, ◌^◌, ℕ, length, All};
+ghost use Rattle.qh_vectors.specs.Lanes.{AreBelow};
 ghost use Rattle.qh_blocks.specs.Blocks.{IsBlock};
 
 use crate::block::Block;
 use qh_vectors::Vector;
+
+/// The greatest magnitude of a coefficient, in each lane.
+#[inline(always)]
+fn block_larger<V: Vector>(x: &Block<V>) -> V
+    requires { IsBlock V.lanes (2 ^ V.PLACES) V.ROOM x.now }
+    ensures above { (b : ℕ) → IsBlock V.lanes (2 ^ V.PLACES) b x.now → AreBelow (2 ^ V.PLACES) b (V.lanes result) }
+    ensures below { (b : ℕ) → AreBelow (2 ^ V.PLACES) b (V.lanes result) → IsBlock V.lanes (2 ^ V.PLACES) b x.now }
+{
+    let first = x.a.larger(x.b);
+    let second = x.c.larger(x.d);
+    first.larger(second)
+}
 
 /// The greatest magnitude of a coefficient.
 #[inline(always)]
@@ -12,11 +25,7 @@ pub(crate) fn block_most<V: Vector>(x: &Block<V>) -> u64
     ensures most { (b : ℕ) → result < 2 ^ b → IsBlock V.lanes (2 ^ V.PLACES) b x.now }
     ensures least { (b : ℕ) → IsBlock V.lanes (2 ^ V.PLACES) b x.now → result < 2 ^ b }
 {
-    let a = x.a.most();
-    let b = x.b.most();
-    let c = x.c.most();
-    let d = x.d.most();
-    a.max(b).max(c.max(d))
+    block_larger(x).most()
 }
 
 /// The least number of bits for a magnitude.
@@ -39,9 +48,9 @@ pub fn bits_of<V: Vector>(v: &[Block<V>]) -> u32
     ensures bounded { All (IsBlock V.lanes (2 ^ V.PLACES) result) v.now }
     ensures least { (b : ℕ) → All (IsBlock V.lanes (2 ^ V.PLACES) b) v.now → result ≤ b }
 {
-    let mut most = 0u64;
+    let mut most = V::zero();
     for k in 0..v.len() {
-        most = most.max(block_most(&v[k]));
+        most = most.larger(block_larger(&v[k]));
     }
-    bits_for(most)
+    bits_for(most.most())
 }
