@@ -1,5 +1,6 @@
 -- Lemmas that the answers cite.
 mod BlocksLemmas
+pub mod FactorLemmas
 mod StoredLemmas
 mod WidenLemmas
 mod WithinLemmas

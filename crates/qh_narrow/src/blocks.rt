@@ -8,9 +8,10 @@ ghost use Rattle.qh_kernel.specs.Rows.{are_single};
 ghost use Rattle.qh_blocks.specs.Blocks.{IsBlock};
 ghost use Rattle.qh_blocks.specs.Widths.{width_after};
 ghost use Rattle.qh_narrow.specs.Columns.{first_numbers, AreBlocksOf, AreKept};
+ghost use Rattle.qh_narrow.specs.Factor.{with_factor};
 
 use crate::wide::Wide;
-use qh_blocks::{Block, apply1, apply2, bits_of, fits_after, ground_blocks, width_of};
+use qh_blocks::{Block, apply1, apply2, bits_of, fits_after, ground_blocks, take_roots, width_of};
 use qh_ring::{Mat2, Mat4};
 use qh_vectors::Vector;
 use std::alloc::{AllocError, Global};
@@ -116,4 +117,32 @@ pub(crate) fn turn2<V: Vector>(
     ensures within { All (IsWithin (V.ROOM - 1)) (first_numbers V.lanes V.PLACES qubits v.new) }
 {
     apply2(v, high_qubits(qubits, V::PLACES), q0, q1, bits, m);
+}
+
+/// Where the true bound leaves fewer bits than this of the lanes' room, a common factor is looked for.
+const SPARE_BITS: u32 = 6;
+
+/// Where the lanes have no room for what the matrix adds, takes a common factor √2^n out of the numbers, n at most `most`.
+/// Tells n and the new bound.
+pub(crate) fn reduce<V: Vector>(
+    v: &mut [Block<V>],
+    qubits: u32,
+    bits: u32,
+    m: &Mat2,
+    most: u32,
+) -> (u32, u32)
+    requires kept { AreKept V.lanes V.PLACES V.ROOM qubits bits v.old }
+    ensures few { result.0 ≤ most }
+    ensures kept { AreKept V.lanes V.PLACES V.ROOM qubits result.1 v.new }
+    ensures numbers { with_factor result.0 (first_numbers V.lanes V.PLACES qubits v.new) ≡ first_numbers V.lanes V.PLACES qubits v.old }
+{
+    if width_of(m, bits) < V::ROOM {
+        return (0, bits);
+    }
+    let known = bits_of(v);
+    if known <= V::ROOM - SPARE_BITS {
+        return (0, known);
+    }
+    let taken = take_roots(v, known, most);
+    (taken, bits_of(v))
 }

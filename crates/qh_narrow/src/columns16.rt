@@ -6,9 +6,12 @@ ghost use Rattle.qh_ring.specs.Matrices.{number_in};
 ghost use Rattle.qh_ring.specs.States.{at_index, applied_list, listed, ground};
 ghost use Rattle.qh_kernel.specs.Rows.{are_single};
 ghost use Rattle.qh_narrow.specs.Columns.{narrow_bits16, zeros};
+ghost use Rattle.qh_narrow.specs.Factor.{with_factor};
 
 use crate::number::number_of;
-use crate::stored::{change1, change2, copy_onto, stored_ground, stored_zeros};
+use crate::stored::{
+    bound_of, change1, change2, copy_onto, stored_ground, stored_zeros, take_common,
+};
 use crate::wide::Wide;
 use crate::widen::widen_onto;
 use qh_blocks::Block;
@@ -77,6 +80,26 @@ impl Columns16 {
         ensures valid { AreColumnsOf narrow_bits16 self.now }
     {
         self.qubits
+    }
+
+    /// A bound of the coefficients, at most 14 bits: each magnitude is below 2^result.
+    pub fn bits(&self) -> u32
+        ensures bound { All (IsWithin result) self.now.numbers }
+        ensures few { result ≤ narrow_bits16 }
+    {
+        bound_of(&self.blocks, self.qubits, self.bits)
+    }
+
+    /// Where the lanes have no room for what the matrix adds, takes a common factor √2^n out of all numbers, n at most
+    /// `most`, and tells n; else n is 0. It goes over the numbers once to see, and a few times where it changes them.
+    pub fn take_factor(&mut self, m: &Mat2, most: u32) -> u32
+        ensures few { result ≤ most }
+        ensures qubits { self.new.qubits ≡ self.old.qubits }
+        ensures numbers { with_factor result self.new.numbers ≡ self.old.numbers }
+    {
+        let taken = take_common(&mut self.blocks, self.qubits, self.bits, m, most);
+        self.bits = taken.1;
+        taken.0
     }
 
     /// Applies the matrix to qubit `q`. It is Wide exactly where a new coefficient's magnitude is 2^14 or more, and the

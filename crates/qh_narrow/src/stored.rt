@@ -7,8 +7,9 @@ ghost use Rattle.qh_ring.specs.Matrices.{number_in};
 ghost use Rattle.qh_ring.specs.States.{applied_list, ground, listed};
 ghost use Rattle.qh_kernel.specs.Rows.{are_single};
 ghost use Rattle.qh_narrow.specs.Columns.{first_numbers, zeros, AreHeld};
+ghost use Rattle.qh_narrow.specs.Factor.{with_factor};
 
-use crate::blocks::{ground_state, high_qubits, turn1, turn2};
+use crate::blocks::{ground_state, high_qubits, reduce, turn1, turn2};
 use crate::wide::Wide;
 use qh_blocks::Block;
 use qh_ring::{Mat2, Mat4};
@@ -98,6 +99,38 @@ pub(crate) fn change2<V: Vector>(
         return;
     }
     turn2(v, qubits, q0, q1, bits, m);
+}
+
+/// Where the lanes have no room for what the matrix adds, takes a common factor √2^n out of the numbers, n at most `most`.
+/// Tells n and the new bound.
+pub(crate) fn take_common<V: Vector>(
+    v: &mut [Block<V>],
+    qubits: u32,
+    bits: u32,
+    m: &Mat2,
+    most: u32,
+) -> (u32, u32)
+    requires { AreHeld V.lanes V.PLACES V.ROOM qubits bits v.old }
+    ensures few { result.0 ≤ most }
+    ensures held { AreHeld V.lanes V.PLACES V.ROOM qubits result.1 v.new }
+    ensures numbers { with_factor result.0 (first_numbers V.lanes V.PLACES qubits v.new) ≡ first_numbers V.lanes V.PLACES qubits v.old }
+{
+    if v.is_empty() {
+        return (0, bits);
+    }
+    reduce(v, qubits, bits, m, most)
+}
+
+/// A bound of the numbers, in bits: the tracked one, and 0 where there are no blocks.
+pub(crate) fn bound_of<V: Vector>(v: &[Block<V>], qubits: u32, bits: u32) -> u32
+    requires { AreHeld V.lanes V.PLACES V.ROOM qubits bits v.now }
+    ensures bound { All (IsWithin result) (first_numbers V.lanes V.PLACES qubits v.now) }
+    ensures few { result ≤ V.ROOM - 1 }
+{
+    if v.is_empty() {
+        return 0;
+    }
+    bits
 }
 
 /// Becomes the other list, for which there is memory.
