@@ -12,7 +12,7 @@ use Rattle.qh_ring.proofs.ListedLemmas.{length-listed}
 use Rattle.qh_half.specs.Halves.{IsVector}
 
 -- ---- a bound that is less strict
-within_more : (m n : ℕ) (z : Omega) → m ≤ n → IsWithin m z → IsWithin n z
+pub within_more : (m n : ℕ) (z : Omega) → m ≤ n → IsWithin m z → IsWithin n z
 within_more m n z l h =
     let p : 2 ^ m ≤ 2 ^ n = pow_mono l in
     let ha = h.a in let hb = h.b in let hc = h.c in let hd = h.d in

@@ -1,2 +1,3 @@
 -- Lemmas that the answers cite.
 mod FormLemmas
+mod RootLemmas

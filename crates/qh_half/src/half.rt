@@ -50,7 +50,7 @@ impl Half {
         let places = Places::ground(alloc, qubits)?;
         Ok(Half {
             qubits,
-            form: Form::Narrow16,
+            form: Form::Narrow16(0),
             places,
         })
     }
@@ -128,9 +128,9 @@ impl Half {
     {
         let places = &mut self.places;
         match other.form {
-            Form::Narrow16 => places.narrow16.copy_from(&other.places.narrow16),
-            Form::Narrow32 => places.narrow32.copy_from(&other.places.narrow32),
-            Form::Narrow64 => places.narrow64.copy_from(&other.places.narrow64),
+            Form::Narrow16(_) => places.narrow16.copy_from(&other.places.narrow16),
+            Form::Narrow32(_) => places.narrow32.copy_from(&other.places.narrow32),
+            Form::Narrow64(_) => places.narrow64.copy_from(&other.places.narrow64),
             Form::Wide => places.wide.copy_from(&other.places.wide),
             Form::Over => (),
         }

@@ -8,6 +8,7 @@ ghost use Rattle.qh_half.specs.Forms.{held, IsKept};
 
 use crate::form::Form;
 use crate::places::Places;
+use crate::scaled::scaled;
 use qh_kernel::Over;
 use qh_ring::Omega;
 
@@ -19,9 +20,9 @@ pub(crate) fn number_of(form: Form, places: &Places, qubits: u32, index: u32) ->
     ensures bounded { IsWithin coefficient_bits result }
 {
     match form {
-        Form::Narrow16 => places.narrow16.at(index),
-        Form::Narrow32 => places.narrow32.at(index),
-        Form::Narrow64 => places.narrow64.at(index),
+        Form::Narrow16(roots) => scaled(&places.narrow16.at(index), roots),
+        Form::Narrow32(roots) => scaled(&places.narrow32.at(index), roots),
+        Form::Narrow64(roots) => scaled(&places.narrow64.at(index), roots),
         Form::Wide => places.wide.at(index),
         Form::Over => Omega::ZERO,
     }

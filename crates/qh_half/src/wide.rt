@@ -5,8 +5,10 @@ ghost use Rattle.qh_ring.specs.Numbers.{IsWithin};
 ghost use Rattle.qh_ring.specs.Matrices.{number_in};
 ghost use Rattle.qh_ring.specs.States.{at_index, applied_list};
 ghost use Rattle.qh_kernel.specs.Rows.{are_single};
+ghost use Rattle.qh_narrow.specs.Factor.{with_factor};
 ghost use Rattle.qh_half.specs.Halves.{IsVector};
 
+use crate::scaled::scaled;
 use qh_kernel::{Over, apply1, apply2};
 use qh_narrow::Columns;
 use qh_ring::{Mat2, Mat4, Omega};
@@ -33,15 +35,16 @@ impl Model for WideNumbers {
     ghost invariant = { λ w. (w.qubits ≤ max_part_qubits) × (2 ^ w.qubits ≤ vec_capacity w.list) };
 }
 
-/// Writes the numbers of the columns into a list of as many.
-fn write_all(columns: &Columns, list: &mut [Omega])
+/// Writes the numbers of the columns, times √2^roots, into a list of as many.
+fn write_all(columns: &Columns, roots: u32, list: &mut [Omega])
     requires few { columns.now.qubits ≤ max_part_qubits }
-    requires vector { IsVector columns.now.qubits columns.now.numbers }
+    requires few_roots { roots ≤ 192 }
+    requires vector { IsVector columns.now.qubits (with_factor roots columns.now.numbers) }
     requires room { length list.old ≡ 2 ^ columns.now.qubits }
-    ensures { list.new ≡ columns.now.numbers }
+    ensures { list.new ≡ with_factor roots columns.now.numbers }
 {
     for index in 0..list.len() {
-        list[index] = columns.at(index as u32);
+        list[index] = scaled(&columns.at(index as u32), roots);
     }
 }
 
@@ -55,15 +58,16 @@ impl WideNumbers {
         Ok(WideNumbers { qubits, list })
     }
 
-    /// Becomes the numbers of columns of as many qubits.
-    pub(crate) fn spread_from(&mut self, columns: &Columns)
+    /// Becomes the numbers of columns of as many qubits, times √2^roots.
+    pub(crate) fn spread_from(&mut self, columns: &Columns, roots: u32)
         requires alike { columns.now.qubits ≡ self.old.qubits }
-        requires vector { IsVector columns.now.qubits columns.now.numbers }
+        requires few { roots ≤ 192 }
+        requires vector { IsVector columns.now.qubits (with_factor roots columns.now.numbers) }
         ensures qubits { self.new.qubits ≡ self.old.qubits }
-        ensures numbers { self.new.numbers ≡ columns.now.numbers }
+        ensures numbers { self.new.numbers ≡ with_factor roots columns.now.numbers }
     {
         let _ = self.list.resize(1usize << self.qubits, Omega::ZERO);
-        write_all(columns, &mut self.list);
+        write_all(columns, roots, &mut self.list);
     }
 
     /// Becomes the other list, of as many qubits, which has its numbers.

@@ -10,8 +10,6 @@ mod part;
 mod place;
 mod run;
 mod stage;
-#[cfg(test)]
-mod tests;
 
 pub use index::local_indices;
 pub use part::{Part, part_width};

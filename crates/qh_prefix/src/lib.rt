@@ -7,8 +7,6 @@
 
 mod cache;
 mod checkpoint;
-#[cfg(test)]
-mod tests;
 
 pub use cache::PrefixCache;
 pub use checkpoint::{Checkpoint, make_checkpoint};

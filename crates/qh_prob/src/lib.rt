@@ -19,6 +19,3 @@ pub use laws::{
 pub use lines::prob_lines;
 pub use print::print_prob;
 pub use prob::{Prob, all_probabilities, chunk_probabilities};
-
-#[cfg(test)]
-mod tests;

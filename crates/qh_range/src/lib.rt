@@ -22,6 +22,3 @@ pub use evaluation::evaluate;
 pub use result::RangeResult;
 pub use room::Room;
 pub use ticket::Ticket;
-
-#[cfg(test)]
-mod tests;

@@ -6,8 +6,6 @@
 #![tactic(auto)]
 
 mod solving;
-#[cfg(test)]
-mod tests;
 mod total;
 
 pub use solving::{Solved, solve};

@@ -16,6 +16,3 @@ pub use chunks::evolve_chunks;
 pub use evolution::evolve;
 pub use fault::UncutFault;
 pub use laws::each_gate_at_most_doubles;
-
-#[cfg(test)]
-mod tests;

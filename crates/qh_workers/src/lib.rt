@@ -15,8 +15,6 @@ mod ended;
 mod gate;
 mod points;
 mod serve;
-#[cfg(test)]
-mod tests;
 mod worker;
 
 pub use desk::Desk;

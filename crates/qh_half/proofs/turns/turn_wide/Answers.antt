@@ -16,6 +16,7 @@ returns-in_default-clause-kept c = record {
     narrow64 = c.requires.kept.alike.narrow64;
     wide = c.in_default.ensures.qubits ∙ c.requires.kept.alike.wide;
   };
+  roots = omega arith;
   vector = tt;
 }
 
@@ -28,6 +29,7 @@ returns-clause-kept c = record {
     narrow64 = c.requires.kept.alike.narrow64;
     wide = c.apply1.ensures.qubits ∙ c.requires.kept.alike.wide;
   };
+  roots = omega arith;
   vector = vector_after c.args.qubits 126 (number_in c.args.m.now.rows) (c.args.q ∷ []) c.args.places.now.wide.numbers c.apply1.new.self.numbers (omega arith)
       c.requires.kept.vector c.in-Ok.ensures.exact c.in-Ok.ensures.within;
 }

@@ -1,4 +1,0 @@
-use Rattle.qh_half.proofs.tests.bell.Given as goal
-
-abbrev pub ghosts-run_bell : goal.ghosts-run_bell
-ghosts-run_bell g a = record { name = a.blank.name; parts = a.blank.parts }

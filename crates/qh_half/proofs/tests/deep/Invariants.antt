@@ -1,4 +1,0 @@
-use Rattle.qh_half.proofs.tests.deep.Given as goal
-
-abbrev pub ghosts-run_deep : goal.ghosts-run_deep
-ghosts-run_deep g a = record { name = a.blank.name; parts = a.blank.parts }

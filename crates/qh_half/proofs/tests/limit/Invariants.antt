@@ -1,4 +1,0 @@
-use Rattle.qh_half.proofs.tests.limit.Given as goal
-
-abbrev pub ghosts-run_limit : goal.ghosts-run_limit
-ghosts-run_limit g a = record { name = a.blank.name; parts = a.blank.parts }

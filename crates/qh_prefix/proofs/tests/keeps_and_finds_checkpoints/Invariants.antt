@@ -1,4 +1,0 @@
-use Rattle.qh_prefix.proofs.tests.keeps_and_finds_checkpoints.Given as goal
-
-abbrev pub ghosts-run_all : goal.ghosts-run_all
-ghosts-run_all g a = record { name = a.blank.name; parts = a.blank.parts }

@@ -1,4 +1,0 @@
-use Rattle.qh_range.proofs.tests.gives_the_value_of_a_range.Given as goal
-
-abbrev pub ghosts-run_all : goal.ghosts-run_all
-ghosts-run_all g a = record { name = a.blank.name; parts = a.blank.parts }

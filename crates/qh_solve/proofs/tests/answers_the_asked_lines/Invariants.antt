@@ -1,4 +1,0 @@
-use Rattle.qh_solve.proofs.tests.answers_the_asked_lines.Given as goal
-
-abbrev pub ghosts-run_all : goal.ghosts-run_all
-ghosts-run_all g a = record { name = a.blank.name; parts = a.blank.parts }
