@@ -1,5 +1,5 @@
 -- What is kept of the inputs, as they are taken.
-use Rattle.std.proofs.Common.{◌≡◌, ℕ, zero, suc, ◌≤◌, List, [], ◌∷◌, ◌++◌, length, take, replicate, Option, Some, None, arith, refl, sym, ap, subst, ◌∙◌}
+use Rattle.std.proofs.Common.{◌≡◌, ℕ, zero, suc, ◌≤◌, List, [], ◌∷◌, ◌++◌, length, take, replicate, Option, Some, None, refl, sym, ap, subst, ◌∙◌}
 use Rattle.std.specs.Prelude.{unwrap_or}
 use Rattle.std.specs.List.{All}
 use Rattle.std.proofs.Math.Path.{ap₂}
@@ -18,7 +18,7 @@ use Rattle.qh_union.specs.Inputs.{Input}
 use Rattle.qh_union.specs.Union.{family, first_with, least_after, sums_after, union_slots, whole}
 use Rattle.qh_union.specs.Gathered.{Adds, IsGathered, Lists, State}
 use Rattle.qh_union.proofs.BoundLemmas.{sums_within}
-use Rattle.qh_union.proofs.UnionLemmas.{Joins, added_parts, fit_part, joined, part_of, repeat_fit, roots_of, same_slots}
+use Rattle.qh_union.proofs.UnionLemmas.{Joins, added_parts, fit_part, joined, part_of, repeat_fit, same_slots}
 
 -- ---- no input
 no_slots : ℕ → Option Verdict
@@ -82,8 +82,7 @@ gathered_repeat w x y earlier s t is fam e f lists =
 -- ---- what the sums take of a new input
 pub within_parts : (w n : ℕ) (x : Input) (earlier : List Input) (s : State) → IsGathered earlier s → Joins s.job w x earlier → n ≤ length x.slots → All (IsWithin 126) (sums_after s.sums (take n x.slots))
 within_parts w n x earlier s is joins le =
-    let count = joins.count ∙ roots_of s.job w x earlier joins in
-    subst (All (IsWithin 126)) (sym (ap (λ (z : List Omega). sums_after z (take n x.slots)) is.sums ∙ (added_parts s.job w n x earlier joins is.fit (omega arith)).sums))
+    subst (All (IsWithin 126)) (sym (ap (λ (z : List Omega). sums_after z (take n x.slots)) is.sums ∙ (added_parts s.job w n x earlier joins is.fit le).sums))
     (sums_within s.job (union_slots s.job (part_of n x ∷ earlier)) is.valid (fit_part s.job w n x earlier joins is.fit))
 
 pub length_sums : (j : Job) (slots : ℕ → Option Verdict) → length (slot_sums (whole j) slots) ≡ length j.bits

@@ -13,3 +13,4 @@ pub mod EndLemmas
 pub mod TakeLemmas
 pub mod GatherLemmas
 pub mod ExactLemmas
+pub mod AddingLemmas

@@ -36,8 +36,8 @@ joins_from j w x earlier goes known none = record {
   family = goes.family;
   new = record { prefix = goes.prefix; none = none };
   below = subst (λ (k : Job). w < prefixes k) (sym (is_under j x.job (Some w) goes.family goes.prefix)) (known.planned.valid.has_prefix w goes.prefix);
-  count = known.count;
-  finished = goes.finished;
+  count = let c = known.count in omega arith;
+  finished = λ r low. goes.finished r (subst (λ (n : ℕ). r < n) known.count low);
   fits = known.fits;
 }
 

@@ -1,5 +1,5 @@
 -- Why an input is not read, put together from why its parts are not.
-use Rattle.std.proofs.Common.{◌≡◌, ◌≢◌, ℕ, inl, inr, List, length, Option, Some, None, arith, refl, sym, ◌∙◌}
+use Rattle.std.proofs.Common.{◌≡◌, ◌≢◌, ℕ, inl, inr, List, length, Option, Some, None, arith, refl, sym, subst, ◌∙◌}
 use Rattle.std.proofs.lemmas.Bool.{le-ltb, ne_eqb}
 use Rattle.qh_counts.proofs.Chains.{rose_before}
 use Rattle.qh_plan.specs.Jobs.{Job, ranges}
@@ -67,6 +67,10 @@ long_fails j size new safe names counts ne = record {
 
 pub long_passes : (j : Job) (size : ℕ) (d : Face) → Reads d (Names j) → Reads d (λ f. size ≡ length f) → size ≡ place (head j) j (ranges j) → Reads d (Passes (head j) (place (head j) j (ranges j)))
 long_passes j size d names counts is f told = record { begins = (names f told).begins; long = sym (counts f told) ∙ is }
+
+-- the same, by a head that is the job's
+pub passed : (j : Job) (h : List ℕ) (d : Face) → h ≡ head j → Reads d (Passes (head j) (place (head j) j (ranges j))) → Reads d (Passes h (place h j (ranges j)))
+passed j h d is reads = subst (λ (k : List ℕ). Reads d (Passes k (place k j (ranges j)))) (sym is) reads
 
 -- ---- a file with a bad slot
 bad_fails : (j : Job) (r : ℕ) (mid new : Face) → Looks mid new → IsSafe mid → Reads mid (Names j) → Reads mid (Passes (head j) (place (head j) j (ranges j)))

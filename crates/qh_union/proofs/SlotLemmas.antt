@@ -19,7 +19,7 @@ length_slot s None even = refl
 length_slot s (Some (Over path)) even = refl
 length_slot s (Some (Sum more)) even = length-added s more (length s) refl (sym (even more refl))
 
-length_after : (n : ℕ) (s : List Omega) (t : Slots) → length s ≡ n → AreEven n t → length (sums_after s t) ≡ n
+pub length_after : (n : ℕ) (s : List Omega) (t : Slots) → length s ≡ n → AreEven n t → length (sums_after s t) ≡ n
 length_after n s [] is even = is
 length_after n s (o ∷ t) is even =
     length_after n (added_slot s o) t (length_slot s o (λ more e. is ∙ even.each 0 more e) ∙ is) (record { each = λ r more e. even.each (suc r) more e })

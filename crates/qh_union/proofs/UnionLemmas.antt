@@ -16,7 +16,7 @@ use Rattle.qh_meaning.specs.Slots.{AreFit, AreFullBelow, IsFilled, least_over, s
 use Rattle.qh_meaning.proofs.SlotLemmas.{one_more}
 use Rattle.qh_slots.specs.Stands.{AllFit, Slots, slot_at}
 use Rattle.qh_union.specs.Inputs.{Input}
-use Rattle.qh_union.specs.Union.{IsFinished, added_slot, elder, first_with, is_value, lesser_slot, least_after, slot_in, sums_after, union, union_slots, whole}
+use Rattle.qh_union.specs.Union.{added_slot, elder, first_with, is_value, lesser_slot, least_after, slot_in, sums_after, union, union_slots, whole}
 
 -- ---- the job under a prefix value
 abbrev pub under : Job → Option ℕ → Job
@@ -60,13 +60,13 @@ same_slots j w x y earlier e f = λ i q. slot_in (sym (repeated w x y earlier e 
 abbrev pub part_of : ℕ → Input → Input
 part_of n x = record { job = x.job; slots = take n x.slots }
 
--- an input of a new prefix value that is finished, in a family
+-- an input of a new prefix value in a family, each of whose slots has a verdict; there may be fewer of them than ranges
 pub record Joins (j : Job) (w : ℕ) (x : Input) (earlier : List Input) : Type 0 where
   pub family : IsSameButPrefix j x.job
   pub new : IsNew w x earlier
   pub below : w < prefixes j
-  pub count : length x.slots ≡ ranges x.job
-  pub finished : IsFinished x
+  pub count : length x.slots ≤ ranges x.job
+  pub finished : (r : ℕ) → r < length x.slots → IsSome (slot_at x.slots r)
   pub fits : AllFit x.job x.slots
 
 part_new : (j : Job) (w n : ℕ) (x : Input) (earlier : List Input) → Joins j w x earlier → IsNew w (part_of n x) earlier
@@ -176,19 +176,18 @@ pub record AreAdded (j : Job) (n : ℕ) (x : Input) (earlier : List Input) : Typ
 taken_more : (s : Slots) (n : ℕ) → n < length s → take (suc n) s ≡ take n s ++ slot_at s n ∷ []
 taken_more s n low = let e : suc n ≡ n + 1 = omega arith in ap (λ (m : ℕ). take m s) e ∙ take_more s n None low
 
-pub added_parts : (j : Job) (w n : ℕ) (x : Input) (earlier : List Input) → Joins j w x earlier → AreFit (whole j) (union_slots j earlier) → n ≤ roots j → AreAdded j n x earlier
+pub added_parts : (j : Job) (w n : ℕ) (x : Input) (earlier : List Input) → Joins j w x earlier → AreFit (whole j) (union_slots j earlier) → n ≤ length x.slots → AreAdded j n x earlier
 added_parts j w zero x earlier h fit le = record {
   sums = ap (slot_sums (whole j)) (part_zero j w x earlier h);
   least = ap (least_over (whole j)) (part_zero j w x earlier h);
 }
 added_parts j w (suc n) x earlier h fit le =
     let before = added_parts j w n x earlier h fit (omega arith) in
-    let count = h.count ∙ roots_of j w x earlier h in
     let inside : n < length x.slots = omega arith in
-    let inside_job : n < ranges x.job = let r = roots_of j w x earlier h in omega arith in
-    let some = some_is (slot_at x.slots n) (h.finished n inside_job) in
+    let inside_job : n < roots j = let r = roots_of j w x earlier h in let m = h.count in omega arith in
+    let some = some_is (slot_at x.slots n) (h.finished n inside) in
     let more = one_more (whole j) (union_slots j (part_of n x ∷ earlier)) (union_slots j (part_of (suc n) x ∷ earlier)) (w * roots j + n) some.0
-    (full_of (whole j) (union_slots j (part_of (suc n) x ∷ earlier)) (fit_part j w (suc n) x earlier h fit)) (filled j w n some.0 x earlier h (omega arith) some.1) in
+    (full_of (whole j) (union_slots j (part_of (suc n) x ∷ earlier)) (fit_part j w (suc n) x earlier h fit)) (filled j w n some.0 x earlier h inside_job some.1) in
     record {
       sums = ap (sums_after (start_sums j earlier)) (taken_more x.slots n inside)
           ∙ fold-append added_slot (start_sums j earlier) (take n x.slots) (slot_at x.slots n ∷ [])
@@ -206,14 +205,13 @@ pub record AreJoined (j : Job) (x : Input) (earlier : List Input) : Type 0 where
 
 pub joined : (j : Job) (w : ℕ) (x : Input) (earlier : List Input) → Joins j w x earlier → AreFit (whole j) (union_slots j earlier) → AreJoined j x earlier
 joined j w x earlier h fit =
-    let count = h.count ∙ roots_of j w x earlier h in
-    let all = added_parts j w (roots j) x earlier h fit (omega arith) in
-    let taken = take_all (roots j) x.slots (omega arith) in
-    let same = part_all j w (roots j) x earlier h (omega arith) in
+    let all = added_parts j w (length x.slots) x earlier h fit (omega arith) in
+    let taken = take_all (length x.slots) x.slots (omega arith) in
+    let same = part_all j w (length x.slots) x earlier h (omega arith) in
     record {
       sums = ap (sums_after (start_sums j earlier)) (sym taken) ∙ all.sums ∙ ap (slot_sums (whole j)) same;
       least = ap (least_after (start_least j earlier)) (sym taken) ∙ all.least ∙ ap (least_over (whole j)) same;
-      fit = subst (AreFit (whole j)) same (fit_part j w (roots j) x earlier h fit);
+      fit = subst (AreFit (whole j)) same (fit_part j w (length x.slots) x earlier h fit);
     }
 
 -- a repeat

@@ -5,3 +5,4 @@ pub mod Merging
 pub mod Parts
 pub mod Laws
 pub mod Gathered
+pub mod Adding

@@ -1,10 +1,12 @@
 //! An input, as it is read from its disk.
-ghost use Rattle.std.specs.Prelude.{◌≡◌, ◌<◌, OnOk, IfOk, IfErr, length, slice_get, vec_len};
+ghost use Rattle.std.specs.Prelude.{◌≡◌, ◌^◌, ◌<◌, OnOk, IfOk, IfErr, length, slice_get, vec_len};
 ghost use Rattle.std.specs.Option.{IsSomeAnd};
 ghost use Rattle.qh_plan.specs.Jobs.{ranges};
 ghost use Rattle.qh_disk.specs.Disk.{IsSafe, Reads};
 ghost use Rattle.qh_disk.specs.Looks.{Looks};
+ghost use Rattle.qh_slots.specs.Layout.{head, place};
 ghost use Rattle.qh_slots.specs.Stands.{AllFit, Stands};
+ghost use Rattle.qh_slots.specs.Attaching.{Passes};
 ghost use Rattle.qh_read_job.specs.Naming.{Names};
 ghost use Rattle.qh_union.specs.Inputs.{AllLook, IsRead};
 ghost use Rattle.qh_union.specs.Parts.{ReadMayFail, ReadMayFailAt, input_of, of_job, of_slots};
@@ -32,7 +34,7 @@ pub(crate) enum ReadFault {
 }
 
 /// What a fault of the job means here.
-fn of_job(fault: JobFault) -> ReadFault
+pub(crate) fn of_job(fault: JobFault) -> ReadFault
     ensures { result ≡ of_job fault }
 {
     match fault {
@@ -47,7 +49,7 @@ fn of_job(fault: JobFault) -> ReadFault
 }
 
 /// What a fault of the slots means here.
-fn of_slots(fault: AttachFault) -> ReadFault
+pub(crate) fn of_slots(fault: AttachFault) -> ReadFault
     ensures { result ≡ of_slots fault }
 {
     match fault {
@@ -61,6 +63,30 @@ fn of_slots(fault: AttachFault) -> ReadFault
         AttachFault::BadLength { .. } => ReadFault::Unread,
         AttachFault::BadSlot { .. } => ReadFault::Unread,
     }
+}
+
+/// The head of the journal of a job, where a file that begins with it is as long as that journal.
+#[tactic(auto, using(qh_disk::proofs::Looking::looks_on))]
+pub(crate) fn head_of<D: Disk>(alloc: Global, disk: &mut D, job: &Job) -> Result<Vec<u8>, ReadFault>
+    requires safe { IsSafe (D.face disk.old) }
+    requires names { Reads (D.face disk.old) (Names job.now) }
+    ensures head { IfOk result (λ v. v.items ≡ head job.now) }
+    ensures passes { OnOk result (Reads (D.face disk.new) (Passes (head job.now) (place (head job.now) job.now (ranges job.now)))) }
+    ensures room { OnOk result (place (head job.now) job.now (ranges job.now) < 2 ^ 64) }
+    ensures fault { IfErr result (λ u. ReadMayFail u (D.face disk.old) (D.face disk.new)) }
+    ensures looks { Looks (D.face disk.old) (D.face disk.new) }
+    ensures same { D.loans disk.new ≡ D.loans disk.old }
+{
+    let Ok(wanted) = head(alloc, job) else {
+        return Err(ReadFault::Memory);
+    };
+    let Ok(size) = count(disk) else {
+        return Err(ReadFault::DiskFault);
+    };
+    if size != wanted.len() as u64 + u64::from(job.ranges()) * slot_size(job) {
+        return Err(ReadFault::Unread);
+    }
+    Ok(wanted)
 }
 
 /// The slots of the journal of a job whose head a file begins with.
@@ -79,15 +105,10 @@ fn read_table<D: Disk>(
     ensures looks { Looks (D.face disk.old) (D.face disk.new) }
     ensures same { D.loans disk.new ≡ D.loans disk.old }
 {
-    let Ok(wanted) = head(alloc, job) else {
-        return Err(ReadFault::Memory);
+    let wanted = match head_of(alloc, disk, job) {
+        Ok(wanted) => wanted,
+        Err(fault) => return Err(fault),
     };
-    let Ok(size) = count(disk) else {
-        return Err(ReadFault::DiskFault);
-    };
-    if size != wanted.len() as u64 + u64::from(job.ranges()) * slot_size(job) {
-        return Err(ReadFault::Unread);
-    }
     match read_slots(alloc, disk, job, wanted.as_slice()) {
         Ok(table) => Ok(table),
         Err(fault) => Err(of_slots(fault)),

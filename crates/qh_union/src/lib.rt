@@ -1,10 +1,12 @@
 //! The union of journals: those of all prefix values of a job are merged into the answer of its whole circuit.
 //!
-//! It reads one input after the other and adds its verdicts to one number for each asked bitstring. Memory: those
-//! numbers, the job of the first input, and the slots of one input, or of two where two inputs have one prefix value,
-//! for then the first is read again. It writes to no disk, and it does not run what is missing.
+//! It reads one input after the other and adds each slot, as it is read, to one number for each asked bitstring. Memory:
+//! those numbers twice, for an input counts as a whole or not at all, the job of the first input and that of another, and
+//! one slot. The first input is read whole, with all its slots, and so are two that have one prefix value and one that is
+//! not finished. It writes to no disk, and it does not run what is missing.
 #![tactic(auto)]
 
+mod adding;
 mod compare;
 mod family;
 mod fault;

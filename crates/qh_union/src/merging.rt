@@ -6,6 +6,7 @@ ghost use Rattle.qh_union.specs.Laws.{AllMade, IsExact};
 ghost use Rattle.qh_union.specs.Merging.{IsMerged, MergeMayFail};
 ghost use Rattle.qh_union.specs.Parts.{IsAnswered, IsProgress, IsSound};
 
+use crate::adding::add_at;
 use crate::compare::{compare, fault_at};
 use crate::family::check;
 use crate::fault::MergeFault;
@@ -51,9 +52,9 @@ fn begin<D: Disk>(alloc: Global, disks: &mut [D]) -> Result<Gathered, MergeFault
     Ok(gathered)
 }
 
-/// Takes the input of a place behind the first.
+/// Takes the input of a place behind the first, whatever prefix value it has. Its slots are read before the first of them is added.
 #[tactic(none)]
-fn take_input<D: Disk>(
+fn take_known<D: Disk>(
     alloc: Global,
     disks: &mut [D],
     place: usize,
@@ -89,6 +90,32 @@ fn take_input<D: Disk>(
         return Err(MergeFault::Memory);
     };
     Ok(())
+}
+
+/// Takes the input of a place behind the first: one with a new prefix value is added slot by slot, and another, or one that is not finished, is then
+/// read whole.
+fn take_input<D: Disk>(
+    alloc: Global,
+    disks: &mut [D],
+    place: usize,
+    gathered: &mut Gathered,
+) -> Result<(), MergeFault>
+    requires place { place < length disks.old }
+    requires behind { 0 < place }
+    requires few { length disks.old ≤ max_inputs }
+    requires kept { IsProgress D.face disks.old place (state_of gathered.old) }
+    ensures kept { OnOk result (IsProgress D.face disks.new (place + 1) (state_of gathered.new)) }
+    ensures fault { IfErr result (λ u. MergeMayFail D.face u disks.old disks.new) }
+    ensures looks { AllLook D.face D.loans disks.old disks.new }
+{
+    let added = match add_at(alloc, disks, place, gathered) {
+        Ok(added) => added,
+        Err(fault) => return Err(fault_at(place as u32, fault)),
+    };
+    if added {
+        return Ok(());
+    }
+    take_known(alloc, disks, place, gathered)
 }
 
 /// Takes all inputs.

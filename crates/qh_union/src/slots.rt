@@ -24,7 +24,7 @@ fn add_all(sums: &mut [Omega], more: &[Omega])
 }
 
 /// Adds the numbers of a slot to sums.
-fn add_slot(sums: &mut [Omega], slot: &Option<Verdict>)
+pub(crate) fn add_slot(sums: &mut [Omega], slot: &Option<Verdict>)
     requires even { (more : List OmegaValue) → slot.now ≡ Some (Sum more) → length sums.old ≡ length more }
     requires within { All (IsWithin coefficient_bits) sums.old }
     ensures { sums.new ≡ added_slot sums.old slot.now }
@@ -35,7 +35,7 @@ fn add_slot(sums: &mut [Omega], slot: &Option<Verdict>)
 }
 
 /// A path and that of a slot, whichever is less.
-fn lesser_path(over: Option<u64>, slot: &Option<Verdict>) -> Option<u64>
+pub(crate) fn lesser_path(over: Option<u64>, slot: &Option<Verdict>) -> Option<u64>
     ensures { result ≡ lesser_slot over slot.now }
 {
     match (over, slot) {
