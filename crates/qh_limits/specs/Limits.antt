@@ -76,3 +76,7 @@ max_workers = 16
 -- the most seconds of a lease: a day
 abbrev pub max_lease : ℕ
 max_lease = 86400
+
+-- the most journals that are merged at once
+abbrev pub max_inputs : ℕ
+max_inputs = 1024

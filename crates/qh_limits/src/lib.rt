@@ -6,7 +6,7 @@
 #![tactic(auto)]
 
 ghost use Rattle.std.specs.Prelude.{◌≡◌};
-ghost use Rattle.qh_limits.specs.Limits.{max_qubits, max_uncut_qubits, max_part_qubits, max_gates, max_crossing, max_path_bits, max_ranges, max_grants, max_bitstrings, max_circuit_bytes, max_bits_bytes, max_journal_bytes, coefficient_bits, product_bits, max_layers, max_weight, max_job_bytes, max_workers, max_lease};
+ghost use Rattle.qh_limits.specs.Limits.{max_qubits, max_uncut_qubits, max_part_qubits, max_gates, max_crossing, max_path_bits, max_ranges, max_grants, max_bitstrings, max_circuit_bytes, max_bits_bytes, max_journal_bytes, coefficient_bits, product_bits, max_layers, max_weight, max_job_bytes, max_workers, max_lease, max_inputs};
 
 /// The most qubits of a circuit.
 pub const MAX_QUBITS: u32 = 40;
@@ -65,6 +65,9 @@ pub const MAX_WORKERS: u32 = 16;
 /// The most seconds of a lease: a day.
 pub const MAX_LEASE: u32 = 86400;
 
+/// The most journals that are merged at once.
+pub const MAX_INPUTS: usize = 1024;
+
 /// The constants are the limits that the definitions state.
 pub fn limits_are_stated()
     ensures qubits { MAX_QUBITS ≡ max_qubits }
@@ -86,4 +89,5 @@ pub fn limits_are_stated()
     ensures job_bytes { MAX_JOB_BYTES ≡ max_job_bytes }
     ensures workers { MAX_WORKERS ≡ max_workers }
     ensures lease { MAX_LEASE ≡ max_lease }
+    ensures inputs { MAX_INPUTS ≡ max_inputs }
 {}

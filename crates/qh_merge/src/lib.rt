@@ -10,5 +10,5 @@ mod stop;
 #[cfg(test)]
 mod tests;
 
-pub use qh_union::{MAX_INPUTS, MergeFault, Merged, merge};
+pub use qh_union::{MergeFault, Merged, merge};
 pub use run::merge_run;

@@ -2,7 +2,8 @@
 ghost use Rattle.std.specs.Prelude.{◌≡◌, ◌≢◌, ◌≤◌, OnOk, IfErr, length};
 ghost use Rattle.std.specs.Io.KnownBytes.{Appends};
 ghost use Rattle.qh_say.specs.Saying.{Says, seen};
-ghost use Rattle.qh_union.specs.Inputs.{AllLook, max_inputs};
+ghost use Rattle.qh_limits.specs.Limits.{max_inputs};
+ghost use Rattle.qh_union.specs.Inputs.{AllLook};
 ghost use Rattle.qh_union.specs.Laws.{AllMade};
 ghost use Rattle.qh_merge.specs.Ends.{IsOver, IsPrinted, MayStop, Prints, Stops, status_of};
 

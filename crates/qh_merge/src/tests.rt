@@ -1,7 +1,8 @@
 //! Journals of both prefix values of a small circuit, merged, and inputs that are not.
-use crate::{MAX_INPUTS, merge_run};
+use crate::merge_run;
 use qh_disk::MemDisk;
 use qh_io::MemSink;
+use qh_limits::MAX_INPUTS;
 use std::alloc::{AllocError, Global};
 use std::process::Abort;
 use std::test::Fail;

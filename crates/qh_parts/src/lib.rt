@@ -16,6 +16,6 @@ pub use fault::DiskFault;
 pub use group::store_group;
 pub use laying::{begin, lay, lay_all, write_slot};
 pub use member::Member;
-pub use reading::{add, barrier, count, read_front, read_slots, settle};
+pub use reading::{add, barrier, count, read_front, read_one, read_slots, settle};
 pub use storing::store;
 pub use wiping::wipe;

@@ -78,9 +78,10 @@ pub fn read_front<D: Disk>(
     Ok(front)
 }
 
-/// The slot of a range in a file that begins with this head. Its bytes go through the buffer.
+/// The slot of a range in a file that begins with this head, or none where its gate is closed. Its bytes go through the
+/// buffer, in one call of the disk.
 #[tactic(auto, using(crate::proofs::ReadingLemmas::only_reads_call, crate::proofs::ReadingLemmas::only_reads_same))]
-fn read_one<D: Disk>(
+pub fn read_one<D: Disk>(
     alloc: Global,
     disk: &mut D,
     job: &Job,

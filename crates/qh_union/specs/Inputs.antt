@@ -11,10 +11,6 @@ use Rattle.qh_slots.specs.Stands.{Slots, AllFit, Stands}
 use Rattle.qh_slots.specs.declared.fault.AttachFault.{AttachFault}
 use Rattle.qh_read_job.specs.Naming.{Names}
 
--- the most inputs of a merge
-abbrev pub max_inputs : ℕ
-max_inputs = 1024
-
 -- the job that a journal names, and its slots
 pub record Input : Type 0 where
   pub job : Job

@@ -2,15 +2,13 @@
 ghost use Rattle.std.specs.Prelude.{◌≡◌, ◌^◌, ◌<◌, true, false, IfOk, IfErr, IfSome, OnOk, length, slice_get};
 ghost use Rattle.std.specs.Option.{IsSomeAnd};
 ghost use Rattle.qh_plan.specs.Jobs.{ranges};
-ghost use Rattle.qh_plan.specs.Ranges.{Fits};
 ghost use Rattle.qh_plan.specs.Plans.{IsPlanned};
 ghost use Rattle.qh_disk.specs.Disk.{IsSafe, Reads};
 ghost use Rattle.qh_disk.specs.Looks.{Looks};
 ghost use Rattle.qh_slots.specs.Layout.{place, slot_size};
-ghost use Rattle.qh_slots.specs.Slots.{SlotIs};
 ghost use Rattle.qh_slots.specs.Stands.{StandsBy};
 ghost use Rattle.qh_slots.specs.Attaching.{Passes};
-ghost use Rattle.qh_parts.specs.Reading.{OnlyReads, SlotMayFail, SlotsMayFail};
+ghost use Rattle.qh_parts.specs.Reading.{OnlyReads, SlotsMayFail};
 ghost use Rattle.qh_read_job.specs.Naming.{Names};
 ghost use Rattle.qh_union.specs.Adding.{AreAddedUp, IsAdded, IsNewIn, Takes, TakesNew};
 ghost use Rattle.qh_union.specs.Gathered.{state_of};
@@ -21,10 +19,11 @@ use crate::gather::{Gathered, place_of};
 use crate::input::{ReadFault, head_of, of_job, of_slots};
 use crate::slots::{add_slot, lesser_path};
 use qh_disk::Disk;
+use qh_parts::read_one;
 use qh_plan::{Job, Verdict};
 use qh_read_job::read_job;
 use qh_ring::Omega;
-use qh_slots::{AttachFault, MARK, read_slot, slot_size};
+use qh_slots::{AttachFault, slot_size};
 use std::alloc::Global;
 
 /// Sums, and the least path that is over.
@@ -32,37 +31,6 @@ use std::alloc::Global;
 struct Total {
     sums: Vec<Omega>,
     over: Option<u64>,
-}
-
-/// The slot of a range in a file that begins with this head. Its bytes go through the buffer.
-#[tactic(auto, using(qh_parts::proofs::ReadingLemmas::only_reads_call, qh_parts::proofs::ReadingLemmas::only_reads_same))]
-fn read_one<D: Disk>(
-    alloc: Global,
-    disk: &mut D,
-    job: &Job,
-    head: &[u8],
-    range: u32,
-    at: u64,
-    slot: &mut [u8],
-) -> Result<Option<Verdict>, AttachFault>
-    requires range { range < ranges job.now }
-    requires at { at ≡ place head.now job.now range }
-    requires size { length slot.old ≡ slot_size job.now }
-    requires whole { Reads (D.face disk.old) (λ f. length f ≡ place head.now job.now (ranges job.now)) }
-    ensures slot { IfOk result (λ o. Reads (D.face disk.old) (λ f. SlotIs head.now job.now range f o)) }
-    ensures fits { IfOk result (λ o. IfSome o (Fits job.now range)) }
-    ensures fault { IfErr result (λ u. SlotMayFail head.now job.now range u (D.face disk.old) (D.face disk.new)) }
-    ensures reading { OnlyReads (D.face disk.old) (D.face disk.new) }
-    ensures same { D.loans disk.new ≡ D.loans disk.old }
-{
-    disk.read_at(at, slot)?;
-    if slot[0] != MARK {
-        return Ok(None);
-    }
-    match read_slot(alloc, &slot[1..], job, range)? {
-        Some(verdict) => Ok(Some(verdict)),
-        None => Err(AttachFault::BadSlot { range }),
-    }
 }
 
 /// What the slots of a file that begins with this head and is as long as the job's journal then is give together with what is there: each is added

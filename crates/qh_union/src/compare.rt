@@ -2,7 +2,8 @@
 ghost use Rattle.std.specs.Prelude.{◌≡◌, ◌<◌, ◌≤◌, ℕ, Some, IsSome, OnOk, IfErr, length};
 ghost use Rattle.qh_plan.specs.Jobs.{ranges};
 ghost use Rattle.qh_slots.specs.Stands.{slot_at};
-ghost use Rattle.qh_union.specs.Inputs.{AllLook, Input, max_inputs};
+ghost use Rattle.qh_limits.specs.Limits.{max_inputs};
+ghost use Rattle.qh_union.specs.Inputs.{AllLook, Input};
 ghost use Rattle.qh_union.specs.Parts.{Goes, IsDifference, RereadMayFail, Repeated, fault_at, input_of};
 
 use crate::family::check;

@@ -18,7 +18,7 @@ mod slots;
 
 pub use fault::MergeFault;
 pub use laws::{made_journals_are_true, merged_journals_give_the_uncut_answer};
-pub use merging::{MAX_INPUTS, Merged, merge};
+pub use merging::{Merged, merge};
 
 #[cfg(test)]
 mod tests;

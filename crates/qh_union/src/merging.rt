@@ -1,6 +1,7 @@
 //! Merges journals.
 ghost use Rattle.std.specs.Prelude.{◌≡◌, ◌+◌, ◌<◌, ◌≤◌, OnOk, IfOk, IfErr, length};
-ghost use Rattle.qh_union.specs.Inputs.{AllLook, max_inputs};
+ghost use Rattle.qh_limits.specs.Limits.{max_inputs};
+ghost use Rattle.qh_union.specs.Inputs.{AllLook};
 ghost use Rattle.qh_union.specs.Gathered.{state_of};
 ghost use Rattle.qh_union.specs.Laws.{AllMade, IsExact};
 ghost use Rattle.qh_union.specs.Merging.{IsMerged, MergeMayFail};
@@ -15,9 +16,6 @@ use crate::input::{Taken, read_at};
 use qh_disk::Disk;
 use qh_print::{Lines, lines_of};
 use std::alloc::{AllocError, Global};
-
-/// The most inputs of a merge.
-pub const MAX_INPUTS: usize = 1024;
 
 /// What merged journals answer: the lines of the asked amplitudes, or the least path that is over.
 #[derive(Drop)]

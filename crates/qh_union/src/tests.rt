@@ -1,6 +1,7 @@
 //! Journals of both prefix values of a small circuit, merged, and inputs that are not.
-use crate::{MAX_INPUTS, MergeFault, Merged, merge};
+use crate::{MergeFault, Merged, merge};
 use qh_disk::MemDisk;
+use qh_limits::MAX_INPUTS;
 use std::alloc::{AllocError, Global};
 use std::process::Abort;
 use std::test::Fail;

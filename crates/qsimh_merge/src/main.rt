@@ -5,7 +5,8 @@
 
 use qh_disk::FileDisk;
 use qh_io::{ErrSink, FileSink};
-use qh_merge::{MAX_INPUTS, merge_run};
+use qh_limits::MAX_INPUTS;
+use qh_merge::merge_run;
 use std::alloc::{AllocError, Global};
 use std::env::Env;
 use std::fs::File;
