@@ -17,6 +17,7 @@ mod quads;
 mod rows;
 mod scan;
 mod two_qubits;
+mod usual;
 
 pub use block::{Block, ground_blocks};
 pub use factor::take_roots;

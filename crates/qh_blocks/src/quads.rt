@@ -87,10 +87,12 @@ pub(crate) fn new_high_low<V: Vector>(
 {
     let x_partner = partners(x, q, bits);
     let y_partner = partners(y, q, bits);
-    let even = new_quad(&(*x, x_partner, *y, y_partner), bits, m);
-    let odd = new_quad(&(x_partner, *x, y_partner, *y), bits, m);
-    let low = blended(&even.0, &odd.1, q, bits);
-    let high = blended(&even.2, &odd.3, q, bits);
+    let first = quad_row(&m.rows[0], x, &x_partner, y, &y_partner, bits);
+    let second = quad_row(&m.rows[1], &x_partner, x, &y_partner, y, bits);
+    let third = quad_row(&m.rows[2], x, &x_partner, y, &y_partner, bits);
+    let fourth = quad_row(&m.rows[3], &x_partner, x, &y_partner, y, bits);
+    let low = blended(&first, &second, q, bits);
+    let high = blended(&third, &fourth, q, bits);
     (low, high)
 }
 
@@ -147,10 +149,12 @@ pub(crate) fn new_low_high<V: Vector>(
 {
     let x_partner = partners(x, q, bits);
     let y_partner = partners(y, q, bits);
-    let even = new_quad(&(*x, *y, x_partner, y_partner), bits, m);
-    let odd = new_quad(&(x_partner, y_partner, *x, *y), bits, m);
-    let low = blended(&even.0, &odd.2, q, bits);
-    let high = blended(&even.1, &odd.3, q, bits);
+    let first = quad_row(&m.rows[0], x, y, &x_partner, &y_partner, bits);
+    let second = quad_row(&m.rows[1], x, y, &x_partner, &y_partner, bits);
+    let third = quad_row(&m.rows[2], &x_partner, &y_partner, x, y, bits);
+    let fourth = quad_row(&m.rows[3], &x_partner, &y_partner, x, y, bits);
+    let low = blended(&first, &third, q, bits);
+    let high = blended(&second, &fourth, q, bits);
     (low, high)
 }
 
@@ -207,12 +211,12 @@ pub(crate) fn new_low_low<V: Vector>(
     let first = partners(x, q0, bits);
     let second = partners(x, q1, bits);
     let both = partners(&first, q1, bits);
-    let neither_set = new_quad(&(*x, second, first, both), bits, m);
-    let second_set = new_quad(&(second, *x, both, first), bits, m);
-    let first_set = new_quad(&(first, both, *x, second), bits, m);
-    let both_set = new_quad(&(both, first, second, *x), bits, m);
-    let low = blended(&neither_set.0, &second_set.1, q1, bits);
-    let high = blended(&first_set.2, &both_set.3, q1, bits);
+    let neither_set = quad_row(&m.rows[0], x, &second, &first, &both, bits);
+    let second_set = quad_row(&m.rows[1], &second, x, &both, &first, bits);
+    let first_set = quad_row(&m.rows[2], &first, &both, x, &second, bits);
+    let both_set = quad_row(&m.rows[3], &both, &first, &second, x, bits);
+    let low = blended(&neither_set, &second_set, q1, bits);
+    let high = blended(&first_set, &both_set, q1, bits);
     blended(&low, &high, q0, bits)
 }
 

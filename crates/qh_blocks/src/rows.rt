@@ -145,6 +145,41 @@ pub(crate) fn pair_row<V: Vector>(
     sum_of(&turned(x, bits, i), &turned(y, bits, j), bits)
 }
 
+/// Of four blocks the one at the row's only entry, and the entry's power.
+#[inline(always)]
+fn only_of<V: Vector>(
+    row: &[Entry; 4],
+    x: &Block<V>,
+    y: &Block<V>,
+    z: &Block<V>,
+    t: &Block<V>,
+    bits: u32,
+) -> (Block<V>, u8)
+    requires units { IsTrue (list_all is_unit row.now) }
+    requires single { IsTrue (is_single row.now) }
+    requires x_block { IsBlock V.lanes (2 ^ V.PLACES) bits x.now }
+    requires y_block { IsBlock V.lanes (2 ^ V.PLACES) bits y.now }
+    requires z_block { IsBlock V.lanes (2 ^ V.PLACES) bits z.now }
+    requires t_block { IsBlock V.lanes (2 ^ V.PLACES) bits t.now }
+    ensures lanes { (r : ℕ) → r < 2 ^ V.PLACES → product (unit_power result.1) (lane V.lanes r result.0) ≡ sum_below 4 (λ c. product (number_of (slice_index_or row.now c Entry.Zero)) (one_of_four (lane V.lanes r x.now) (lane V.lanes r y.now) (lane V.lanes r z.now) (lane V.lanes r t.now) c)) }
+    ensures unit { result.1 < 8 }
+    ensures block { IsBlock V.lanes (2 ^ V.PLACES) bits result.0 }
+{
+    if let Entry::Unit(power) = row[0] {
+        return (*x, power);
+    }
+    if let Entry::Unit(power) = row[1] {
+        return (*y, power);
+    }
+    if let Entry::Unit(power) = row[2] {
+        return (*z, power);
+    }
+    if let Entry::Unit(power) = row[3] {
+        return (*t, power);
+    }
+    (nothing_block(), 0)
+}
+
 /// What a row with at most one entry makes of four blocks.
 #[inline(always)]
 pub(crate) fn quad_row<V: Vector>(
@@ -165,17 +200,6 @@ pub(crate) fn quad_row<V: Vector>(
     ensures lanes { (r : ℕ) → r < 2 ^ V.PLACES → lane V.lanes r result ≡ sum_below 4 (λ c. product (number_of (slice_index_or row.now c Entry.Zero)) (one_of_four (lane V.lanes r x.now) (lane V.lanes r y.now) (lane V.lanes r z.now) (lane V.lanes r t.now) c)) }
     ensures block { IsBlock V.lanes (2 ^ V.PLACES) bits result }
 {
-    if let Entry::Unit(power) = row[0] {
-        return turned(x, bits, power);
-    }
-    if let Entry::Unit(power) = row[1] {
-        return turned(y, bits, power);
-    }
-    if let Entry::Unit(power) = row[2] {
-        return turned(z, bits, power);
-    }
-    if let Entry::Unit(power) = row[3] {
-        return turned(t, bits, power);
-    }
-    nothing_block()
+    let (source, power) = only_of(row, x, y, z, t, bits);
+    turned(&source, bits, power)
 }

@@ -1,4 +1,4 @@
-use Rattle.std.proofs.Common.{arith, ◌∙◌}
+use Rattle.std.proofs.Common.{◌∙◌}
 use Rattle.std.proofs.Math.Path.{ap₂}
 use Rattle.qh_ring.specs.declared.number.Omega.{Omega}
 use Rattle.qh_vectors.specs.Lanes.{chosen}
@@ -10,18 +10,18 @@ pub returns-clause-low : goal.returns-clause-low
 returns-clause-low g c r l =
     c.blended-low.ensures.lanes r l
     ∙ ap₂ (chosen c.args.q r)
-    (c.new_quad-even.ensures.lanes 0 r (omega arith) l ∙ ap₂ (λ (s : Omega) (t : Omega). row_of_four c.args.m.now.rows 0 (lane g.V.Vector.lanes r c.args.x.now) s (lane g.V.Vector.lanes r c.args.y.now) t) (c.partners-x_partner.ensures.lanes r l) (c.partners-y_partner.ensures.lanes r l))
-    (c.new_quad-odd.ensures.lanes 1 r (omega arith) l ∙ ap₂ (λ (s : Omega) (t : Omega). row_of_four c.args.m.now.rows 1 s (lane g.V.Vector.lanes r c.args.x.now) t (lane g.V.Vector.lanes r c.args.y.now)) (c.partners-x_partner.ensures.lanes r l) (c.partners-y_partner.ensures.lanes r l))
+    (c.quad_row-first.ensures.lanes r l ∙ ap₂ (λ (s : Omega) (t : Omega). row_of_four c.args.m.now.rows 0 (lane g.V.Vector.lanes r c.args.x.now) s (lane g.V.Vector.lanes r c.args.y.now) t) (c.partners-x_partner.ensures.lanes r l) (c.partners-y_partner.ensures.lanes r l))
+    (c.quad_row-second.ensures.lanes r l ∙ ap₂ (λ (s : Omega) (t : Omega). row_of_four c.args.m.now.rows 1 s (lane g.V.Vector.lanes r c.args.x.now) t (lane g.V.Vector.lanes r c.args.y.now)) (c.partners-x_partner.ensures.lanes r l) (c.partners-y_partner.ensures.lanes r l))
 
 pub returns-clause-high : goal.returns-clause-high
 returns-clause-high g c r l =
     c.blended-high.ensures.lanes r l
     ∙ ap₂ (chosen c.args.q r)
-    (c.new_quad-even.ensures.lanes 2 r (omega arith) l ∙ ap₂ (λ (s : Omega) (t : Omega). row_of_four c.args.m.now.rows 2 (lane g.V.Vector.lanes r c.args.x.now) s (lane g.V.Vector.lanes r c.args.y.now) t) (c.partners-x_partner.ensures.lanes r l) (c.partners-y_partner.ensures.lanes r l))
-    (c.new_quad-odd.ensures.lanes 3 r (omega arith) l ∙ ap₂ (λ (s : Omega) (t : Omega). row_of_four c.args.m.now.rows 3 s (lane g.V.Vector.lanes r c.args.x.now) t (lane g.V.Vector.lanes r c.args.y.now)) (c.partners-x_partner.ensures.lanes r l) (c.partners-y_partner.ensures.lanes r l))
+    (c.quad_row-third.ensures.lanes r l ∙ ap₂ (λ (s : Omega) (t : Omega). row_of_four c.args.m.now.rows 2 (lane g.V.Vector.lanes r c.args.x.now) s (lane g.V.Vector.lanes r c.args.y.now) t) (c.partners-x_partner.ensures.lanes r l) (c.partners-y_partner.ensures.lanes r l))
+    (c.quad_row-fourth.ensures.lanes r l ∙ ap₂ (λ (s : Omega) (t : Omega). row_of_four c.args.m.now.rows 3 s (lane g.V.Vector.lanes r c.args.x.now) t (lane g.V.Vector.lanes r c.args.y.now)) (c.partners-x_partner.ensures.lanes r l) (c.partners-y_partner.ensures.lanes r l))
 
 pub returns-clause-low_block : goal.returns-clause-low_block
-returns-clause-low_block g c = c.blended-low.ensures.block c.args.bits c.new_quad-even.ensures.blocks.first c.new_quad-odd.ensures.blocks.second
+returns-clause-low_block g c = c.blended-low.ensures.block c.args.bits c.quad_row-first.ensures.block c.quad_row-second.ensures.block
 
 pub returns-clause-high_block : goal.returns-clause-high_block
-returns-clause-high_block g c = c.blended-high.ensures.block c.args.bits c.new_quad-even.ensures.blocks.third c.new_quad-odd.ensures.blocks.fourth
+returns-clause-high_block g c = c.blended-high.ensures.block c.args.bits c.quad_row-third.ensures.block c.quad_row-fourth.ensures.block

@@ -1,7 +1,27 @@
+use Rattle.std.proofs.Common.{◌∙◌}
+use Rattle.std.proofs.Math.Path.{ap₂}
+use Rattle.qh_ring.specs.declared.number.Omega.{Omega}
+use Rattle.qh_vectors.specs.Lanes.{chosen}
+use Rattle.qh_blocks.specs.Blocks.{lane}
+use Rattle.qh_blocks.specs.Numbers.{row_of_four}
 use Rattle.qh_blocks.proofs.quads.new_low_high.Goals as goal
 
+pub returns-clause-low : goal.returns-clause-low
+returns-clause-low g c r l =
+    c.blended-low.ensures.lanes r l
+    ∙ ap₂ (chosen c.args.q r)
+    (c.quad_row-first.ensures.lanes r l ∙ ap₂ (λ (s : Omega) (t : Omega). row_of_four c.args.m.now.rows 0 (lane g.V.Vector.lanes r c.args.x.now) (lane g.V.Vector.lanes r c.args.y.now) s t) (c.partners-x_partner.ensures.lanes r l) (c.partners-y_partner.ensures.lanes r l))
+    (c.quad_row-third.ensures.lanes r l ∙ ap₂ (λ (s : Omega) (t : Omega). row_of_four c.args.m.now.rows 2 s t (lane g.V.Vector.lanes r c.args.x.now) (lane g.V.Vector.lanes r c.args.y.now)) (c.partners-x_partner.ensures.lanes r l) (c.partners-y_partner.ensures.lanes r l))
+
+pub returns-clause-high : goal.returns-clause-high
+returns-clause-high g c r l =
+    c.blended-high.ensures.lanes r l
+    ∙ ap₂ (chosen c.args.q r)
+    (c.quad_row-second.ensures.lanes r l ∙ ap₂ (λ (s : Omega) (t : Omega). row_of_four c.args.m.now.rows 1 (lane g.V.Vector.lanes r c.args.x.now) (lane g.V.Vector.lanes r c.args.y.now) s t) (c.partners-x_partner.ensures.lanes r l) (c.partners-y_partner.ensures.lanes r l))
+    (c.quad_row-fourth.ensures.lanes r l ∙ ap₂ (λ (s : Omega) (t : Omega). row_of_four c.args.m.now.rows 3 s t (lane g.V.Vector.lanes r c.args.x.now) (lane g.V.Vector.lanes r c.args.y.now)) (c.partners-x_partner.ensures.lanes r l) (c.partners-y_partner.ensures.lanes r l))
+
 pub returns-clause-low_block : goal.returns-clause-low_block
-returns-clause-low_block g c = c.blended-low.ensures.block c.args.bits c.new_quad-even.ensures.blocks.first c.new_quad-odd.ensures.blocks.third
+returns-clause-low_block g c = c.blended-low.ensures.block c.args.bits c.quad_row-first.ensures.block c.quad_row-third.ensures.block
 
 pub returns-clause-high_block : goal.returns-clause-high_block
-returns-clause-high_block g c = c.blended-high.ensures.block c.args.bits c.new_quad-even.ensures.blocks.second c.new_quad-odd.ensures.blocks.fourth
+returns-clause-high_block g c = c.blended-high.ensures.block c.args.bits c.quad_row-second.ensures.block c.quad_row-fourth.ensures.block
