@@ -1,3 +1,5 @@
 -- Lemmas that the answers cite.
 mod FormLemmas
 mod RootLemmas
+pub mod RunsLemmas
+mod TakenLemmas

@@ -86,7 +86,7 @@ factors_add s r v =
 pub same_factor : (s r : ℕ) (v w : List Omega) → with_factor r w ≡ v → with_factor (s + r) w ≡ with_factor s v
 same_factor s r v w e = factors_add s r w ∙ ap (with_factor s) e
 
-all_widened : (s bits n : ℕ) (v : List Omega) → bits + (s + 1) / 2 ≤ n → All (IsWithin bits) v → All (IsWithin n) (with_factor s v)
+pub all_widened : (s bits n : ℕ) (v : List Omega) → bits + (s + 1) / 2 ≤ n → All (IsWithin bits) v → All (IsWithin n) (with_factor s v)
 all_widened s bits n v l h i d b =
     let bv : i < length v = subst (λ t. i < t) (length-map v (times_root s)) b in
     subst (IsWithin n) (sym (get_or_default (with_factor s v) i d nothing b ∙ at_factor s v i))

@@ -1,18 +1,21 @@
 //! A half state.
-ghost use Rattle.std.specs.Prelude.{◌≡◌, ◌≢◌, ◌≤◌, ◌<◌, ◌+◌, ◌^◌, [], ◌∷◌, IfOk, IfSome, IsSome, IsNone, OnOk, OnErr, IsTrue, ◌↔◌, Some};
+ghost use Rattle.std.specs.Prelude.{◌≡◌, ◌≢◌, ◌≤◌, ◌<◌, ◌+◌, ◌^◌, [], ◌∷◌, length, All, IfOk, IfSome, IsSome, IsNone, OnOk, OnErr, IsTrue, ◌↔◌, Some};
 ghost use Rattle.qh_limits.specs.Limits.{coefficient_bits, max_part_qubits};
 ghost use Rattle.qh_ring.specs.Numbers.{IsWithin};
 ghost use Rattle.qh_ring.specs.Matrices.{number_in};
 ghost use Rattle.qh_ring.specs.States.{at_index, listed, ground};
 ghost use Rattle.qh_kernel.specs.Rows.{are_single};
+ghost use Rattle.qh_tiles.specs.Turns.{IsTurnIn};
 
 use crate::form::Form;
 use crate::numbers::{answer_of, number_of};
 use crate::places::Places;
+use crate::runs::turn_all;
 use crate::turns::{turn1, turn2};
 use qh_kernel::Over;
 use qh_ring::{Mat2, Mat4, Omega};
 use qh_steps::Steps;
+use qh_tiles::Turn;
 use std::alloc::{AllocError, Global};
 use std::marker::Model;
 use std::sync::ledger::Ledger;
@@ -37,8 +40,17 @@ impl Model for Half {
     ghost invariant = { λ h. IsKept h.qubits h.form h.places };
 }
 
+/// Counts so many steps.
+fn tick_all<L: Ledger>(count: usize, steps: &mut Steps<L>)
+    ensures { steps.new ≡ steps.old + count }
+{
+    for _ in 0..count {
+        steps.tick();
+    }
+}
+
 impl Half {
-    ghost use Rattle.qh_half.specs.Halves.{IsHalf, AfterMatrix};
+    ghost use Rattle.qh_half.specs.Halves.{IsHalf, AfterMatrix, AfterTurns};
 
     /// The half of 1 to 20 qubits with 1 at index 0 and 0 elsewhere. It takes 120 bytes a number, and writes
     /// 8 of them.
@@ -69,6 +81,14 @@ impl Half {
         ensures valid { IsHalf self.now }
     {
         matches!(self.form, Form::Over)
+    }
+
+    /// Whether it keeps its numbers in 128 bits a coefficient, since they have no room in less. A pass over them then takes
+    /// tens of times as long.
+    pub fn is_wide(&self) -> bool
+        ensures held { IsTrue result → IsSome self.now.numbers }
+    {
+        matches!(self.form, Form::Wide)
     }
 
     /// The number at an index, of a half that is not over.
@@ -119,6 +139,19 @@ impl Half {
         steps.tick();
         turn2(self.form, &mut self.places, self.qubits, m, q0, q1);
         answer_of(self.form)
+    }
+
+    /// Applies the turns of the run, the first one first, each of which is one step. Turns on low qubits go over a tile of
+    /// the numbers together, as long as these stay in lanes. The half is over from the first turn on that makes a
+    /// coefficient's magnitude 2^126 or more, and where it was over already.
+    pub fn apply_run<L: Ledger>(&mut self, run: &[Turn], steps: &mut Steps<L>)
+        requires { All (IsTurnIn self.old.qubits) run.now }
+        ensures qubits { self.new.qubits ≡ self.old.qubits }
+        ensures numbers { AfterTurns run.now self.old.numbers self.new.numbers }
+        ensures steps { steps.new ≡ steps.old + length run.now }
+    {
+        tick_all(run.len(), steps);
+        self.form = turn_all(self.form, &mut self.places, self.qubits, run);
     }
 
     /// Becomes the other half, of as many qubits: its numbers, or its being over.

@@ -2,5 +2,6 @@
 mod BlocksLemmas
 pub mod FactorLemmas
 mod StoredLemmas
+mod TilesLemmas
 mod WidenLemmas
 mod WithinLemmas

@@ -1,22 +1,24 @@
 //! The state of a part in lanes of 32 bits.
-ghost use Rattle.std.specs.Prelude.{◌≡◌, ◌≢◌, ◌<◌, ◌≤◌, ◌+◌, ◌-◌, ◌^◌, [], ◌∷◌, All, IsTrue, OnOk, OnErr, IfOk, IsOk};
+ghost use Rattle.std.specs.Prelude.{◌≡◌, ◌≢◌, ◌<◌, ◌≤◌, ◌+◌, ◌-◌, ◌^◌, [], ◌∷◌, length, take, All, IsTrue, OnOk, OnErr, IfOk, IsOk};
 ghost use Rattle.qh_limits.specs.Limits.{max_part_qubits};
 ghost use Rattle.qh_ring.specs.Numbers.{IsWithin};
 ghost use Rattle.qh_ring.specs.Matrices.{number_in};
 ghost use Rattle.qh_ring.specs.States.{at_index, applied_list, listed, ground};
 ghost use Rattle.qh_kernel.specs.Rows.{are_single};
+ghost use Rattle.qh_tiles.specs.Turns.{after_turns, IsTurnIn, StayWithin};
 ghost use Rattle.qh_narrow.specs.Columns.{narrow_bits32, zeros};
 ghost use Rattle.qh_narrow.specs.Factor.{with_factor};
 
 use crate::columns16::Columns16;
 use crate::number::number_of;
 use crate::stored::{
-    bound_of, change1, change2, copy_onto, stored_ground, stored_zeros, take_common,
+    bound_of, change_run, change1, change2, copy_onto, stored_ground, stored_zeros, take_common,
 };
 use crate::wide::Wide;
 use crate::widen::widen_onto;
 use qh_blocks::Block;
 use qh_ring::{Mat2, Mat4, Omega};
+use qh_tiles::Turn;
 use std::alloc::{AllocError, Global};
 use std::marker::Model;
 use std::simd::{i32x8, i64x8};
@@ -136,6 +138,21 @@ impl Columns32 {
     {
         change2(&mut self.blocks, self.qubits, q0, q1, self.bits, m);
         Ok(())
+    }
+
+    /// Applies the first turns of the run, as many as lie within a tile of the numbers and have room by the tracked bound,
+    /// to one tile after the other, and tells how many. It is 0 where the columns are no greater than a tile, and where
+    /// fewer than two turns qualify. A tile of 256 KiB then stays in a cache while they go over it.
+    pub fn apply_run(&mut self, run: &[Turn]) -> usize
+        requires { All (IsTurnIn self.old.qubits) run.now }
+        ensures few { result ≤ length run.now }
+        ensures qubits { self.new.qubits ≡ self.old.qubits }
+        ensures exact { self.new.numbers ≡ after_turns (take result run.now) self.old.numbers }
+        ensures within { StayWithin narrow_bits32 (take result run.now) self.old.numbers }
+    {
+        let (count, bound) = change_run(&mut self.blocks, self.qubits, self.bits, run);
+        self.bits = bound;
+        count
     }
 
     /// Becomes the other state, of as many qubits.

@@ -14,6 +14,7 @@ mod columns16;
 mod columns32;
 mod number;
 mod stored;
+mod tiles;
 mod wide;
 mod widen;
 

@@ -1,18 +1,21 @@
 //! Blocks with the memory that was taken for them beforehand: those of a state, or none where each of its numbers is 0.
-ghost use Rattle.std.specs.Prelude.{◌≡◌, ◌≢◌, ◌≤◌, ◌<◌, ◌-◌, ◌^◌, [], ◌∷◌, length, All, IsTrue, IfOk, OnOk, OnErr};
+ghost use Rattle.std.specs.Prelude.{◌≡◌, ◌≢◌, ◌≤◌, ◌<◌, ◌-◌, ◌^◌, [], ◌∷◌, length, take, All, IsTrue, IfOk, OnOk, OnErr};
 ghost use Rattle.std.specs.Vec.{vec_capacity};
 ghost use Rattle.qh_limits.specs.Limits.{max_part_qubits};
 ghost use Rattle.qh_ring.specs.Numbers.{IsWithin};
 ghost use Rattle.qh_ring.specs.Matrices.{number_in};
 ghost use Rattle.qh_ring.specs.States.{applied_list, ground, listed};
 ghost use Rattle.qh_kernel.specs.Rows.{are_single};
+ghost use Rattle.qh_tiles.specs.Turns.{after_turns, IsTurnIn, StayWithin};
 ghost use Rattle.qh_narrow.specs.Columns.{first_numbers, zeros, AreHeld};
 ghost use Rattle.qh_narrow.specs.Factor.{with_factor};
 
 use crate::blocks::{ground_state, high_qubits, reduce, turn1, turn2};
+use crate::tiles::turn_tiles;
 use crate::wide::Wide;
 use qh_blocks::Block;
 use qh_ring::{Mat2, Mat4};
+use qh_tiles::Turn;
 use qh_vectors::Vector;
 use std::alloc::{AllocError, Global};
 
@@ -99,6 +102,26 @@ pub(crate) fn change2<V: Vector>(
         return;
     }
     turn2(v, qubits, q0, q1, bits, m);
+}
+
+/// Applies first turns of the run tile by tile. Tells how many, and the new bound.
+pub(crate) fn change_run<V: Vector>(
+    v: &mut [Block<V>],
+    qubits: u32,
+    bits: u32,
+    run: &[Turn],
+) -> (usize, u32)
+    requires held { AreHeld V.lanes V.PLACES V.ROOM qubits bits v.old }
+    requires turns { All (IsTurnIn qubits) run.now }
+    ensures few { result.0 ≤ length run.now }
+    ensures held { AreHeld V.lanes V.PLACES V.ROOM qubits result.1 v.new }
+    ensures exact { first_numbers V.lanes V.PLACES qubits v.new ≡ after_turns (take result.0 run.now) (first_numbers V.lanes V.PLACES qubits v.old) }
+    ensures within { StayWithin (V.ROOM - 1) (take result.0 run.now) (first_numbers V.lanes V.PLACES qubits v.old) }
+{
+    if v.is_empty() {
+        return (0, bits);
+    }
+    turn_tiles(v, qubits, bits, run)
 }
 
 /// Where the lanes have no room for what the matrix adds, takes a common factor √2^n out of the numbers, n at most `most`.

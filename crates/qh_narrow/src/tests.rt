@@ -4,10 +4,12 @@ ghost use Rattle.std.specs.Prelude.{◌≤◌, ◌↔◌, ◌≡◌, ◌^◌, Al
 ghost use Rattle.qh_limits.specs.Limits.{coefficient_bits};
 ghost use Rattle.qh_ring.specs.Numbers.{IsWithin};
 ghost use Rattle.qh_kernel.specs.Rows.{is_single, are_single};
+ghost use Rattle.qh_tiles.specs.Turns.{IsTurnIn};
 
 use crate::{Columns, Columns16, Columns32, Wide};
 use qh_limits::COEFFICIENT_BITS;
 use qh_ring::{Entry, Mat2, Mat4, Omega, within};
+use qh_tiles::Turn;
 use std::alloc::Global;
 use std::process::Abort;
 use std::test::Fail;
@@ -133,7 +135,7 @@ fn fit(rt: &impl Abort, v: &[Omega], bits: u32) -> bool {
 
 /// How many numbers so many qubits have.
 fn count_of(qubits: u32) -> usize
-    requires { qubits ≤ 6 }
+    requires { qubits ≤ 20 }
     ensures { result ≡ 2 ^ qubits }
 {
     1usize << qubits
@@ -158,6 +160,30 @@ fn wide2(rt: &impl Abort, all: &mut [Omega; 64], qubits: u32, m: &Mat4, q0: u32,
     qh_kernel::apply2(v, qubits, m, q0, q1);
 }
 
+fn is_turn_in(turn: &Turn, limit: u32) -> bool
+    ensures { IsTrue result → IsTurnIn limit turn.now }
+{
+    match turn {
+        Turn::One { qubit, .. } => *qubit < limit,
+        Turn::Two {
+            matrix,
+            first,
+            second,
+        } => *first < limit && *second < limit && *first != *second && are_single_rows(matrix),
+    }
+}
+
+fn are_turns_in(run: &[Turn], limit: u32) -> bool
+    ensures { IsTrue result → All (IsTurnIn limit) run.now }
+{
+    for turn in run {
+        if !is_turn_in(turn, limit) {
+            return false;
+        }
+    }
+    true
+}
+
 /// Columns of one width, whose calls test what they require.
 trait Width: Drop {
     /// Coefficients have magnitudes below 2^BITS.
@@ -165,7 +191,7 @@ trait Width: Drop {
 
     fn start(alloc: Global, qubits: u32) -> Result<Self, Fail>
         requires some { 1 ≤ qubits }
-        requires few { qubits ≤ 6 };
+        requires few { qubits ≤ 20 };
 
     fn count(&self) -> u32;
 
@@ -174,6 +200,8 @@ trait Width: Drop {
     fn turn1(&mut self, rt: &impl Abort, m: &Mat2, q: u32) -> Result<(), Wide>;
 
     fn turn2(&mut self, rt: &impl Abort, m: &Mat4, q0: u32, q1: u32) -> Result<(), Wide>;
+
+    fn turns(&mut self, rt: &impl Abort, run: &[Turn]) -> usize;
 
     fn copy(&mut self, rt: &impl Abort, other: &Self);
 }
@@ -191,7 +219,7 @@ impl Width for Columns16 {
 
     fn number(&self, rt: &impl Abort, index: u32) -> Omega {
         let qubits = self.qubits();
-        assert!(rt; qubits <= 6);
+        assert!(rt; qubits <= 20);
         assert!(rt; (index as usize) < count_of(qubits));
         self.at(index)
     }
@@ -207,6 +235,12 @@ impl Width for Columns16 {
         assert!(rt; q0 < qubits && q1 < qubits && q0 != q1);
         assert!(rt; are_single_rows(m));
         self.apply2(m, q0, q1)
+    }
+
+    fn turns(&mut self, rt: &impl Abort, run: &[Turn]) -> usize {
+        let qubits = self.qubits();
+        assert!(rt; are_turns_in(run, qubits));
+        self.apply_run(run)
     }
 
     fn copy(&mut self, rt: &impl Abort, other: &Self) {
@@ -230,7 +264,7 @@ impl Width for Columns32 {
 
     fn number(&self, rt: &impl Abort, index: u32) -> Omega {
         let qubits = self.qubits();
-        assert!(rt; qubits <= 6);
+        assert!(rt; qubits <= 20);
         assert!(rt; (index as usize) < count_of(qubits));
         self.at(index)
     }
@@ -246,6 +280,12 @@ impl Width for Columns32 {
         assert!(rt; q0 < qubits && q1 < qubits && q0 != q1);
         assert!(rt; are_single_rows(m));
         self.apply2(m, q0, q1)
+    }
+
+    fn turns(&mut self, rt: &impl Abort, run: &[Turn]) -> usize {
+        let qubits = self.qubits();
+        assert!(rt; are_turns_in(run, qubits));
+        self.apply_run(run)
     }
 
     fn copy(&mut self, rt: &impl Abort, other: &Self) {
@@ -269,7 +309,7 @@ impl Width for Columns {
 
     fn number(&self, rt: &impl Abort, index: u32) -> Omega {
         let qubits = self.qubits();
-        assert!(rt; qubits <= 6);
+        assert!(rt; qubits <= 20);
         assert!(rt; (index as usize) < count_of(qubits));
         self.at(index)
     }
@@ -285,6 +325,12 @@ impl Width for Columns {
         assert!(rt; q0 < qubits && q1 < qubits && q0 != q1);
         assert!(rt; are_single_rows(m));
         self.apply2(m, q0, q1)
+    }
+
+    fn turns(&mut self, rt: &impl Abort, run: &[Turn]) -> usize {
+        let qubits = self.qubits();
+        assert!(rt; are_turns_in(run, qubits));
+        self.apply_run(run)
     }
 
     fn copy(&mut self, rt: &impl Abort, other: &Self) {
@@ -465,6 +511,65 @@ fn run_zeros(rt: &impl Abort, alloc: Global) -> Result<(), Fail> {
     middle.widen_from(&zeros);
     assert!(rt; equals(rt, &middle, &v));
     Ok(())
+}
+
+/// A turn by the matrix alone.
+fn turn_alone<C: Width>(rt: &impl Abort, columns: &mut C, turn: &Turn) {
+    let answer = match turn {
+        Turn::One { matrix, qubit } => columns.turn1(rt, matrix, *qubit),
+        Turn::Two {
+            matrix,
+            first,
+            second,
+        } => columns.turn2(rt, matrix, *first, *second),
+    };
+    assert_eq!(rt; answer, Ok(()));
+}
+
+/// Columns of two tiles take the turns up to the first on the last qubit, and then have the numbers that the matrices make
+/// one by one. Columns of one tile take none.
+fn run_tiles<C: Width>(rt: &impl Abort, alloc: Global, qubits: u32) -> Result<(), Fail> {
+    assert!(rt; 4 <= qubits && qubits <= 16);
+    let last = qubits - 1;
+    let one = |kind: u32, qubit: u32| Turn::One {
+        matrix: dense(kind),
+        qubit,
+    };
+    let two = |kind: u32, first: u32, second: u32| Turn::Two {
+        matrix: matrix2(kind),
+        first,
+        second,
+    };
+    let run = [
+        one(1, 0),
+        two(1, 0, last - 1),
+        one(2, last - 1),
+        two(2, 2, last - 1),
+        one(3, 2),
+        two(0, 2, last),
+        one(0, 1),
+    ];
+    let mut tiled = C::start(alloc, qubits)?;
+    let mut plain = C::start(alloc, qubits)?;
+    turn_alone(rt, &mut tiled, &one(1, last));
+    turn_alone(rt, &mut plain, &one(1, last));
+    assert_eq!(rt; tiled.turns(rt, &run), 5);
+    for turn in &run[..5] {
+        turn_alone(rt, &mut plain, turn);
+    }
+    for x in 0..1u32 << qubits {
+        assert!(rt; tiled.number(rt, x) == plain.number(rt, x), "number {x}");
+    }
+    let mut small = C::start(alloc, last)?;
+    assert_eq!(rt; small.turns(rt, &run[..4]), 0);
+    Ok(())
+}
+
+#[test]
+fn tiles(rt: HostRuntime) -> Result<(), Fail> {
+    run_tiles::<Columns16>(&rt, rt.alloc(), 16)?;
+    run_tiles::<Columns32>(&rt, rt.alloc(), 15)?;
+    run_tiles::<Columns>(&rt, rt.alloc(), 14)
 }
 
 #[test]

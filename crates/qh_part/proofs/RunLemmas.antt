@@ -2,6 +2,7 @@
 use Rattle.std.proofs.Common.{◌≡◌, ℕ, zero, suc, ◌+◌, ◌<◌, ◌≤◌, inl, inr, true, List, [], ◌∷◌, ◌++◌, length, get_or, take, drop, Option, Some, None, arith, refl, sym, ap, subst, ◌∙◌}
 use Rattle.std.specs.List.{All, AllZip}
 use Rattle.std.proofs.lemmas.List.{take_more, take_all, length-append, get_or-drop, drop-drop, append_assoc}
+use Rattle.std.proofs.lemmas.List.Elements.{All-push}
 use Rattle.std.proofs.lemmas.List.Sums.{fold-append}
 use Rattle.std.proofs.lemmas.Bool.{cases_Bool}
 use Rattle.qh_ring.specs.declared.number.Omega.{Omega}
@@ -15,7 +16,11 @@ use Rattle.qh_gates.specs.declared.kind.Kind.{Kind}
 use Rattle.qh_gates.specs.Tables.{matrix_of}
 use Rattle.qh_gates.specs.Terms.{term_at}
 use Rattle.qh_gates.specs.Evolution.{Operation}
-use Rattle.qh_half.specs.Halves.{AfterMatrix}
+use Rattle.qh_tiles.specs.declared.turn.Turn.{Turn}
+use Rattle.qh_tiles.specs.declared.turn.Turn.TheVariants.{One, Two}
+use Rattle.qh_tiles.specs.Turns.{matrix_in, qubits_in, IsTurnIn}
+use Rattle.qh_half.specs.Halves.{AfterMatrix, AfterTurns}
+use Rattle.qh_half.proofs.RunsLemmas.{runs_split}
 use Rattle.qh_meaning.specs.Paths.{first_digit}
 use Rattle.qh_meaning.specs.Limits.{state_fits}
 use Rattle.qh_meaning.specs.Traces.{kept_where, half_step, half_after, HoldsHalf}
@@ -23,7 +28,7 @@ use Rattle.qh_meaning.proofs.LimitLemmas.{fits_listed, listed_fits}
 use Rattle.qh_part.specs.declared.place.Placed.{Placed}
 use Rattle.qh_part.specs.declared.place.Placed.TheVariants.{OnOne, OnTwo, FirstHere, SecondHere}
 use Rattle.qh_part.specs.Places.{operation_by, choices, term_counts, operations, HasTerm}
-use Rattle.qh_part.specs.Runs.{IsAfter}
+use Rattle.qh_part.specs.Runs.{operation_in, IsAfter}
 
 -- ---- one matrix on a half
 step_some : (n : ℕ) (v : ℕ → Omega) (m : ℕ → ℕ → Omega) (qs : List ℕ) (new : Option (List Omega)) → AllLess n qs
@@ -92,20 +97,42 @@ first_is (d ∷ ds) = refl
 next_is : (ds : List ℕ) (u : ℕ) → first_digit (drop u ds) ≡ get_or ds u 0
 next_is ds u = let e : u + 0 ≡ u = omega arith in first_is (drop u ds) ∙ get_or-drop u ds 0 0 ∙ ap (λ k. get_or ds k 0) e
 
--- after the first i gates: so many digits are taken, and as many steps made as there were gates
-pub record IsRunning (m : ℕ) (ps : List Placed) (ds : List ℕ) (i used size before now : ℕ) (old numbers : Option (List Omega)) : Type 0 where
+-- after the first i gates: so many digits are taken, and what the piece still owes the half comes to what these gates do
+pub record IsGathering (m : ℕ) (ps : List Placed) (ds : List ℕ) (i used size before now : ℕ) (old numbers : Option (List Omega)) (piece : List Turn) : Type 0 where
   pub used_is : used ≡ length (term_counts (take i ps))
   pub few : used ≤ i
   pub size_is : size ≡ m
-  pub steps : now ≡ before + i
-  pub after : IsAfter m (operations (take i ps) ds) old numbers
+  pub steps : now + length piece ≡ before + i
+  pub fit : All (IsTurnIn m) piece
+  pub after : (new : Option (List Omega)) → AfterTurns piece numbers new → IsAfter m (operations (take i ps) ds) old new
 
-pub running_none : (m : ℕ) (ps : List Placed) (ds : List ℕ) (size before : ℕ) (old : Option (List Omega)) → size ≡ m → IsRunning m ps ds 0 0 size before before old old
-running_none m ps ds size before old e = record { used_is = refl; few = omega arith; size_is = e; steps = omega arith; after = after_none m old }
+pub gathering_none : (m : ℕ) (ps : List Placed) (ds : List ℕ) (size before : ℕ) (old : Option (List Omega)) → size ≡ m → IsGathering m ps ds 0 0 size before before old old []
+gathering_none m ps ds size before old e = record {
+  used_is = refl;
+  few = omega arith;
+  size_is = e;
+  steps = omega arith;
+  fit = λ i d l. absurd (omega arith);
+  after = λ new h. subst (λ t. IsAfter m [] old t) (sym h) (after_none m old);
+}
 
-pub has_term : (m : ℕ) (ps : List Placed) (ds : List ℕ) (i used size before now t : ℕ) (old numbers : Option (List Omega)) (z : Placed)
-    → AllZip (λ d r. d < r) ds (term_counts ps) → i < length ps → IsRunning m ps ds i used size before now old numbers → t ≡ get_or ds used 0 → HasTerm t (get_or ps i z)
-has_term m ps ds i used size before now t old numbers z a l r e =
+-- the same after the half took a piece
+pub gathering_room : (m : ℕ) (ps : List Placed) (ds : List ℕ) (i used size size' before now now' : ℕ) (old numbers numbers' : Option (List Omega)) (piece piece' : List Turn)
+    → IsGathering m ps ds i used size before now old numbers piece → size' ≡ size → now' + length piece' ≡ now + length piece → All (IsTurnIn size') piece'
+    → ((new : Option (List Omega)) → AfterTurns piece' numbers' new → AfterTurns piece numbers new)
+    → IsGathering m ps ds i used size' before now' old numbers' piece'
+gathering_room m ps ds i used size size' before now now' old numbers numbers' piece piece' r s n fit a = record {
+  used_is = r.used_is;
+  few = r.few;
+  size_is = s ∙ r.size_is;
+  steps = n ∙ r.steps;
+  fit = subst (λ k. All (IsTurnIn k) piece') (s ∙ r.size_is) fit;
+  after = λ new h. r.after new (a new h);
+}
+
+pub has_term : (m : ℕ) (ps : List Placed) (ds : List ℕ) (i used size before now t : ℕ) (old numbers : Option (List Omega)) (piece : List Turn) (z : Placed)
+    → AllZip (λ d r. d < r) ds (term_counts ps) → i < length ps → IsGathering m ps ds i used size before now old numbers piece → t ≡ get_or ds used 0 → HasTerm t (get_or ps i z)
+has_term m ps ds i used size before now t old numbers piece z a l r e =
     subst (λ t. HasTerm t (get_or ps i z)) (sym (e ∙ ap (λ k. get_or ds k 0) r.used_is)) (term_fits ps ds i z a l)
 
 one_at_most : (p : Placed) → length (choices p) ≤ 1
@@ -114,35 +141,65 @@ one_at_most (OnTwo kind p q) = omega arith
 one_at_most (FirstHere kind q) = omega arith
 one_at_most (SecondHere kind q) = omega arith
 
-pub running_more : (m : ℕ) (ps : List Placed) (ds : List ℕ) (i used taken size size' before now now' t : ℕ) (old numbers new : Option (List Omega)) (z : Placed) → i < length ps
-    → IsRunning m ps ds i used size before now old numbers → t ≡ get_or ds used 0 → taken ≡ length (choices (get_or ps i z)) → size' ≡ size → now' ≡ now + 1
-    → IsAfter m (operation_by (get_or ps i z) t ∷ []) numbers new
-    → IsRunning m ps ds (i + 1) (used + taken) size' before now' old new
-running_more m ps ds i used taken size size' before now now' t old numbers new z l r e u s n a =
+turn_less : (n : ℕ) (turn : Turn) → IsTurnIn n turn → AllLess n (qubits_in turn)
+turn_less n (One matrix qubit) h = (h, tt)
+turn_less n (Two matrix first second) h = (h.0, (h.1, tt))
+
+turn_after : (n : ℕ) (turn : Turn) (old new : Option (List Omega)) → IsTurnIn n turn → AfterTurns (turn ∷ []) old new → IsAfter n (operation_in turn ∷ []) old new
+turn_after n turn old new t h =
+    after_one n old new (matrix_in turn) (qubits_in turn) (turn_less n turn t) (subst (AfterMatrix (matrix_in turn) (qubits_in turn) old) (sym h.2) h.1)
+
+-- one more turn is owed
+pub gathering_more : (m : ℕ) (ps : List Placed) (ds : List ℕ) (i used taken size before now t : ℕ) (old numbers : Option (List Omega)) (piece piece' : List Turn) (turn : Turn) (z : Placed) → i < length ps
+    → IsGathering m ps ds i used size before now old numbers piece → t ≡ get_or ds used 0 → taken ≡ length (choices (get_or ps i z)) → IsTurnIn m turn
+    → operation_in turn ≡ operation_by (get_or ps i z) t → piece' ≡ piece ++ turn ∷ []
+    → IsGathering m ps ds (i + 1) (used + taken) size before now old numbers piece'
+gathering_more m ps ds i used taken size before now t old numbers piece piece' turn z l r e u fit o p =
     let few = one_at_most (get_or ps i z) in
     let w = r.few in
     let next = r.steps in
+    let longer : length piece' ≡ length piece + 1 = ap length p ∙ length-append piece (turn ∷ []) in
     let more : take (i + 1) ps ≡ take i ps ++ get_or ps i z ∷ [] = take_more ps i z l in
     let counts : length (term_counts (take (i + 1) ps)) ≡ length (term_counts (take i ps)) + length (choices (get_or ps i z)) =
     ap (λ qs. length (term_counts qs)) more ∙ ap length (counts_append (take i ps) (get_or ps i z ∷ [])) ∙ length-append (term_counts (take i ps)) (choices (get_or ps i z) ++ [])
     ∙ ap (λ k. length (term_counts (take i ps)) + k) (length-append (choices (get_or ps i z)) [] ∙ omega arith) in
     let digit : first_digit (drop (length (term_counts (take i ps))) ds) ≡ t = next_is ds (length (term_counts (take i ps))) ∙ ap (λ k. get_or ds k 0) (sym r.used_is) ∙ sym e in
-    let all : operations (take (i + 1) ps) ds ≡ operations (take i ps) ds ++ operation_by (get_or ps i z) t ∷ [] =
+    let all : operations (take (i + 1) ps) ds ≡ operations (take i ps) ds ++ operation_in turn ∷ [] =
     ap (λ qs. operations qs ds) more ∙ operations_append (take i ps) (get_or ps i z ∷ []) ds
-    ∙ ap (λ d. operations (take i ps) ds ++ operation_by (get_or ps i z) d ∷ []) digit in
+    ∙ ap (λ d. operations (take i ps) ds ++ operation_by (get_or ps i z) d ∷ []) digit ∙ ap (λ b. operations (take i ps) ds ++ b ∷ []) (sym o) in
     record {
       used_is = let c = r.used_is in omega (arith, counts);
       few = omega arith;
-      size_is = s ∙ r.size_is;
+      size_is = r.size_is;
       steps = omega arith;
-      after = subst (λ os. IsAfter m os old new) (sym all) (after_append m (operations (take i ps) ds) (operation_by (get_or ps i z) t ∷ []) old numbers new r.after a);
+      fit = subst (All (IsTurnIn m)) (sym p) (All-push (IsTurnIn m) piece turn r.fit fit);
+      after = λ new h.
+          let s = runs_split piece (turn ∷ []) numbers new (subst (λ ts. AfterTurns ts numbers new) p h) in
+          subst (λ os. IsAfter m os old new) (sym all) (after_append m (operations (take i ps) ds) (operation_in turn ∷ []) old s.0 new (r.after s.0 s.1) (turn_after m turn s.0 new fit s.2));
     }
 
-pub running_all : (m : ℕ) (ps : List Placed) (ds : List ℕ) (i used size before now : ℕ) (old numbers : Option (List Omega)) → length ps ≤ i
-    → IsRunning m ps ds i used size before now old numbers → IsAfter m (operations ps ds) old numbers
-running_all m ps ds i used size before now old numbers l r = subst (λ qs. IsAfter m (operations qs ds) old numbers) (take_all i ps l) r.after
+pub gathering_all : (m : ℕ) (ps : List Placed) (ds : List ℕ) (i used size before now : ℕ) (old numbers new : Option (List Omega)) (piece : List Turn) → length ps ≤ i
+    → IsGathering m ps ds i used size before now old numbers piece → AfterTurns piece numbers new → IsAfter m (operations ps ds) old new
+gathering_all m ps ds i used size before now old numbers new piece l r h = subst (λ qs. IsAfter m (operations qs ds) old new) (take_all i ps l) (r.after new h)
 
--- ---- what each gate does, by the call that it makes
+-- ---- what each gate does, by its turn
+abbrev pub by_rows : List (List Entry) → List ℕ → Operation
+by_rows rows qs = record { matrix = number_in rows; qubits = qs }
+
+module _ (t : ℕ) (gate : Placed) where
+  pub turn_one : (kind : Kind) (q : ℕ) (rows : List (List Entry)) → gate ≡ OnOne kind q → rows ≡ matrix_of kind → by_rows rows (q ∷ []) ≡ operation_by gate t
+  turn_one kind q rows e r = subst (λ g. by_rows rows (q ∷ []) ≡ operation_by g t) (sym e) (ap (λ m. by_rows m (q ∷ [])) r)
+
+  pub turn_two : (kind : Kind) (p q : ℕ) (rows : List (List Entry)) → gate ≡ OnTwo kind p q → rows ≡ matrix_of kind → by_rows rows (p ∷ q ∷ []) ≡ operation_by gate t
+  turn_two kind p q rows e r = subst (λ g. by_rows rows (p ∷ q ∷ []) ≡ operation_by g t) (sym e) (ap (λ m. by_rows m (p ∷ q ∷ [])) r)
+
+  pub turn_first : (kind : Kind) (q : ℕ) (rows : List (List Entry)) → gate ≡ FirstHere kind q → rows ≡ (term_at kind t).first → by_rows rows (q ∷ []) ≡ operation_by gate t
+  turn_first kind q rows e r = subst (λ g. by_rows rows (q ∷ []) ≡ operation_by g t) (sym e) (ap (λ m. by_rows m (q ∷ [])) r)
+
+  pub turn_second : (kind : Kind) (q : ℕ) (rows : List (List Entry)) → gate ≡ SecondHere kind q → rows ≡ (term_at kind t).second → by_rows rows (q ∷ []) ≡ operation_by gate t
+  turn_second kind q rows e r = subst (λ g. by_rows rows (q ∷ []) ≡ operation_by g t) (sym e) (ap (λ m. by_rows m (q ∷ [])) r)
+
+-- ---- and by the call that it makes
 module _ (n t : ℕ) (gate : Placed) (old new : Option (List Omega)) where
   pub whole_one : (kind : Kind) (q : ℕ) (rows : List (List Entry)) → gate ≡ OnOne kind q → q < n → rows ≡ matrix_of kind
       → AfterMatrix (number_in rows) (q ∷ []) old new → IsAfter n (operation_by gate t ∷ []) old new

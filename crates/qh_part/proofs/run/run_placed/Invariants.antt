@@ -1,6 +1,6 @@
-use Rattle.qh_part.proofs.RunLemmas.{IsRunning}
+use Rattle.qh_part.proofs.RunLemmas.{IsGathering}
 use Rattle.qh_part.proofs.run.run_placed.Given as goal
 
 abbrev pub invariant-loop-gate : goal.invariant-loop-gate
 invariant-loop-gate g l =
-    IsRunning l.initial.half.qubits l.gates l.digits l.gate-index l.used l.half.qubits l.initial.steps l.steps l.initial.half.numbers l.half.numbers
+    IsGathering l.initial.half.qubits l.gates l.digits l.gate-index l.used l.half.qubits l.initial.steps l.steps l.initial.half.numbers l.half.numbers l.piece.items
