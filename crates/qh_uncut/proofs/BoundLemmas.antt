@@ -1,5 +1,6 @@
 -- How fast the numbers grow: a row of the table has at most two entries.
 use Rattle.std.proofs.Common.{◌≡◌, ◌≢◌, ℕ, zero, suc, ◌+◌, ◌*◌, ◌^◌, ◌<◌, ◌≤◌, inl, inr, Bool, true, false, cond, IsTrue, List, [], ◌∷◌, length, map, take, get_or, ◌⊎◌, ◌&&◌, ◌||◌, ◌==◌, arith, refl, sym, ap, subst, ◌∙◌}
+use Rattle.std.specs.Prelude.{Result, Ok, Err, IfErr}
 use Rattle.std.specs.List.{count_by, list_all}
 use Rattle.std.proofs.lemmas.Int.{ints}
 use Rattle.std.proofs.lemmas.Bool.{or_cases, and_parts, eqb-true}
@@ -22,7 +23,10 @@ use Rattle.qh_gates.specs.Circuits.{Circuit}
 use Rattle.qh_gates.proofs.KindLemmas.{each_kind}
 use Rattle.qh_kernel.specs.Rows.{is_entry, is_single, are_single}
 use Rattle.qh_kernel.proofs.RowLemmas.{beside, at_most}
+use Rattle.qh_uncut.specs.declared.fault.UncutFault.{UncutFault}
+use Rattle.qh_uncut.specs.declared.fault.UncutFault.TheVariants.{Over, Memory}
 use Rattle.qh_uncut.specs.Bounds.{IsAtMost}
+use Rattle.qh_uncut.specs.Faults.{IsCause}
 
 at_most_turned : (b : ℕ) (z : Omega) → IsAtMost b z → IsAtMost b (turned z)
 at_most_turned b z h =
@@ -152,3 +156,12 @@ short_fits n gates l x b =
 -- a circuit of at most 125 gates has no gate that overflows
 pub short_never : (c : Circuit) (gate : ℕ) → length c.gates < 126 → IsUncutOver c gate → ⊥
 short_never c gate l o = o.over (short_fits c.qubits (take (gate + 1) c.gates) (let t = length-take (gate + 1) c.gates in omega arith))
+
+-- so its evolution wants memory, where it fails
+pub only_memory : (c : Circuit) (fault : UncutFault) → length c.gates < 126 → IsCause c fault → fault ≡ Memory
+only_memory c (Over gate) l o = absurd (short_never c gate l o)
+only_memory c Memory l o = refl
+
+pub short_memory : {T : Type 0} (c : Circuit) (r : Result T UncutFault) → length c.gates < 126 → IfErr r (IsCause c) → IfErr r (λ fault. fault ≡ Memory)
+short_memory c (Ok x) l o = tt
+short_memory c (Err fault) l o = only_memory c fault l o

@@ -1,20 +1,16 @@
 -- The new number at one index.
-use Rattle.std.proofs.Common.{◌≡◌, ℕ, ◌+◌, ◌-◌, ◌*◌, ◌^◌, ◌<◌, ◌≤◌, ◌==◌, cond, List, [], ◌∷◌, length, Option, Some, None, IsTrue, get_or, arith, refl, sym, ap, subst, ◌∙◌}
+use Rattle.std.proofs.Common.{◌≡◌, ℕ, ◌+◌, ◌-◌, ◌*◌, ◌^◌, ◌<◌, ◌≤◌, ◌==◌, cond, List, [], ◌∷◌, length, Option, Some, None, get_or, arith, refl, sym, ap, subst, ◌∙◌}
 use Rattle.std.proofs.Math.Path.{ap₂}
 use Rattle.std.specs.Int.{bit_at}
-use Rattle.std.specs.List.{All, range_with_len}
 use Rattle.std.proofs.lemmas.Nat.{pow_pos}
 use Rattle.std.proofs.lemmas.List.FromFn.{fill_by_all}
 use Rattle.qh_ring.specs.declared.number.Omega.{Omega}
 use Rattle.qh_ring.specs.declared.matrix.Entry.{Entry}
-use Rattle.qh_ring.specs.declared.matrix.Entry.TheVariants.{Zero}
 use Rattle.qh_ring.specs.Numbers.{sum, product, nothing, unit_power}
-use Rattle.qh_ring.specs.Matrices.{number_in, number_of}
-use Rattle.qh_ring.specs.States.{sum_below, place_on, with_bit, with_bits, applied, applied_list, at_index}
-use Rattle.qh_ring.specs.Laws.{AllLess}
+use Rattle.qh_ring.specs.Matrices.{number_in}
+use Rattle.qh_ring.specs.States.{sum_below, with_bit, with_bits, applied, applied_list, at_index}
 use Rattle.qh_ring.proofs.SumLemmas.{nothing_sum}
-use Rattle.qh_ring.proofs.AgreeLemmas.{bits_below}
-use Rattle.qh_ring.proofs.BitLemmas.{bit_weight, with_bit_below}
+use Rattle.qh_ring.proofs.BitLemmas.{with_bit_below}
 use Rattle.qh_gates.specs.declared.gate.Gate.{Gate}
 use Rattle.qh_gates.specs.Tables.{qubits_of}
 use Rattle.qh_gates.specs.Evolution.{wires}

@@ -11,6 +11,7 @@ use Rattle.qh_gates.specs.Tables.{matrix_of}
 use Rattle.qh_gates.specs.Circuits.{Circuit, IsCircuit, Fits}
 use Rattle.qh_gates.specs.Evolution.{wires, IsUncutOver}
 use Rattle.qh_half.specs.Halves.{Half, AfterMatrix}
+use Rattle.qh_uncut.specs.Progress.{numbers_after, FitsUpTo}
 use Rattle.qh_uncut.proofs.EvolutionLemmas.{IsRunning, running_none, gate_done, gate_over, fits_listed}
 use Rattle.qh_uncut.proofs.BoundLemmas.{short_fits}
 
@@ -51,6 +52,21 @@ module _ (c : Circuit) (gs : List Gate) (n : ℕ) (z : Gate) (e : gs ≡ c.gates
 
   pub fits_gate : (q : ℕ) → q ≡ c.qubits → Fits q (get_or gs n z)
   fits_gate q f = subst (λ k. Fits k (get_or gs n z)) (sym f) (subst (λ (xs : List Gate). n < length xs → Fits c.qubits (get_or xs n z)) (sym e) (valid.fit n z) l)
+
+-- its numbers
+numbers_done : (c : Circuit) (n : ℕ) (o : Option (List Omega)) → IsSome o → IfSome o (IsRunning c n) → o ≡ Some (numbers_after c n)
+numbers_done c n None s r = absurd (cc)
+numbers_done c n (Some v) s r = ap Some r.now
+
+pub done_numbers : (c : Circuit) (n : ℕ) (h : Half) → IsDone c n h → h.numbers ≡ Some (numbers_after c n)
+done_numbers c n h d = numbers_done c n h.numbers d.some d.running
+
+fits_done : (c : Circuit) (n : ℕ) (o : Option (List Omega)) → IsSome o → IfSome o (IsRunning c n) → FitsUpTo c n
+fits_done c n None s r = absurd (cc)
+fits_done c n (Some v) s r = r.fits
+
+pub done_fits : (c : Circuit) (n : ℕ) (h : Half) → IsDone c n h → FitsUpTo c n
+done_fits c n h d = fits_done c n h.numbers d.some d.running
 
 -- its numbers, once they are written out
 pub done_running : (c : Circuit) (n : ℕ) (h : Half) (v : List Omega) → IsDone c n h → h.numbers ≡ Some v → IsRunning c n v

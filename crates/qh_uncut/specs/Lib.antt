@@ -1,4 +1,5 @@
--- The definitions that contracts cite: causes, how fast numbers grow, and rows of one entry.
+-- The definitions that contracts cite: causes, how fast numbers grow, rows of one entry, and how far an evolution has come.
 pub mod Faults
 pub mod Bounds
 pub mod Rows
+pub mod Progress

@@ -1,4 +1,4 @@
-//! The evolution by several threads: each gate makes a new vector of the old one.
+//! The evolution by several threads, where numbers are wide: each gate makes a new vector of the old one.
 ghost use Rattle.std.specs.Prelude.{◌≡◌, ◌↔◌, ◌^◌, ◌<◌, ◌≤◌, ◌≢◌, ℕ, [], ◌∷◌, length, slice_index_or, All, IsTrue, IfOk, IfErr, OnOk, OnErr};
 ghost use Rattle.qh_limits.specs.Limits.{coefficient_bits, max_part_qubits, max_uncut_qubits};
 ghost use Rattle.qh_ring.specs.declared.number.Omega.{Omega as OmegaValue};
@@ -10,11 +10,13 @@ ghost use Rattle.qh_gates.specs.Circuits.{Fits};
 ghost use Rattle.qh_gates.specs.Evolution.{wires, uncut, NeverOver};
 ghost use Rattle.qh_kernel.specs.Rows.{are_single};
 ghost use Rattle.qh_uncut.specs.Faults.{IsCause};
+ghost use Rattle.qh_uncut.specs.Progress.{FitsUpTo, numbers_after};
 ghost use Rattle.qh_uncut.specs.Rows.{AreOnly};
 
 use crate::entries::{only_entries, pair_number, quad_number};
 use crate::evolution::evolve;
 use crate::fault::UncutFault;
+use crate::narrow::{Front, narrow_front};
 use qh_gates::{Circuit, Gate, arity, matrix1, matrix2};
 use qh_kernel::{Over, ground_vector};
 use qh_limits::COEFFICIENT_BITS;
@@ -24,7 +26,7 @@ use std::alloc::Global;
 use std::mem::swap;
 use std::thread::Threads;
 
-/// Vectors of fewer qubits are made by one thread: starting others for each gate takes longer than the work.
+/// Circuits of fewer qubits are evolved by one thread: starting others for each gate takes longer than the work.
 const LEAST_QUBITS: u32 = 16;
 
 /// Makes the numbers of a new vector by a matrix on qubit `q`, each in one of several threads.
@@ -175,7 +177,8 @@ fn renew<R: Threads + Sync>(
     Ok(())
 }
 
-/// As [`evolve`], by several threads, which it joins. It takes 64 bytes a number twice.
+/// As [`evolve`]. A circuit of 16 qubits goes on by several threads, which it joins, from where its numbers have no room in
+/// less than 128 bits a coefficient. It takes what `evolve` takes, and from there on 64 bytes a number twice.
 pub fn evolve_chunks<R: Threads + Sync>(
     rt: &R,
     alloc: Global,
@@ -188,18 +191,40 @@ pub fn evolve_chunks<R: Threads + Sync>(
     ensures cause { IfErr result (IsCause circuit.now) }
     ensures short { length circuit.now.gates < coefficient_bits → IfErr result (λ fault. fault ≡ UncutFault.Memory) }
 {
-    let qubits = circuit.qubits();
-    if qubits < LEAST_QUBITS {
+    if circuit.qubits() < LEAST_QUBITS {
         return evolve(alloc, circuit);
     }
-    let Ok(mut v) = ground_vector(alloc, qubits) else {
-        return Err(UncutFault::Memory);
-    };
+    let Front { gates, numbers } = narrow_front(alloc, circuit)?;
+    go_on(rt, alloc, circuit, gates, numbers)
+}
+
+/// The state after all gates, from the one after the first `done`, by several threads.
+fn go_on<R: Threads + Sync>(
+    rt: &R,
+    alloc: Global,
+    circuit: &Circuit,
+    done: usize,
+    mut v: Vec<Omega>,
+) -> Result<Vec<Omega>, UncutFault>
+    requires few { circuit.now.qubits ≤ max_uncut_qubits }
+    requires some { done ≤ length circuit.now.gates }
+    requires numbers { v.items ≡ numbers_after circuit.now done }
+    requires never { FitsUpTo circuit.now done }
+    ensures exact { IfOk result (λ v. v.items ≡ listed circuit.now.qubits (uncut circuit.now.gates)) }
+    ensures within { IfOk result (λ v. All (IsWithin coefficient_bits) v.items) }
+    ensures never { OnOk result (NeverOver circuit.now) }
+    ensures cause { IfErr result (IsCause circuit.now) }
+{
+    let gates = circuit.gates();
+    if done == gates.len() {
+        return Ok(v);
+    }
+    let qubits = circuit.qubits();
     let Ok(mut spare) = ground_vector(alloc, qubits) else {
         return Err(UncutFault::Memory);
     };
-    for (i, gate) in circuit.gates().iter().enumerate() {
-        let Ok(()) = renew(rt, qubits, gate, &mut v, &mut spare) else {
+    for i in done..gates.len() {
+        let Ok(()) = renew(rt, qubits, &gates[i], &mut v, &mut spare) else {
             return Err(UncutFault::Over { gate: i as u32 });
         };
     }

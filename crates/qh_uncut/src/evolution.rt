@@ -69,7 +69,11 @@ fn evolve_counted<L: Ledger>(
 }
 
 /// Applies a gate's matrix on its qubits. It is Over exactly where a new coefficient's magnitude is 2^126 or more.
-fn apply_gate<L: Ledger>(state: &mut Half, gate: &Gate, steps: &mut Steps<L>) -> Result<(), Over>
+pub(crate) fn apply_gate<L: Ledger>(
+    state: &mut Half,
+    gate: &Gate,
+    steps: &mut Steps<L>,
+) -> Result<(), Over>
     requires { Fits state.old.qubits gate.now }
     ensures qubits { state.new.qubits ≡ state.old.qubits }
     ensures numbers { AfterMatrix (number_in (matrix_of gate.now.kind)) (wires gate.now) state.old.numbers state.new.numbers }
@@ -83,7 +87,7 @@ fn apply_gate<L: Ledger>(state: &mut Half, gate: &Gate, steps: &mut Steps<L>) ->
 }
 
 /// The numbers of a state that is not over.
-fn numbers_of(alloc: Global, state: &Half) -> Result<Vec<Omega>, AllocError>
+pub(crate) fn numbers_of(alloc: Global, state: &Half) -> Result<Vec<Omega>, AllocError>
     requires { IsSome state.now.numbers }
     ensures { IfOk result (λ v. state.now.numbers ≡ Some v.items) }
 {

@@ -209,3 +209,51 @@ fn overflow_by_threads(rt: HostRuntime) -> Result<(), Fail> {
     }
     Ok(())
 }
+
+/// `h` and `t` by turns on qubit 0, so often, and then every kind.
+fn deep_circuit(rt: &impl Abort, alloc: Global, turns: u32) -> Result<Circuit, AllocError> {
+    let mut rows = Vec::new(alloc);
+    for _ in 0..turns {
+        rows.push((Kind::H, 0u32, 0u32))?;
+        rows.push((Kind::T, 0u32, 0u32))?;
+    }
+    for row in &EVERY_KIND {
+        rows.push(*row)?;
+    }
+    circuit_of(rt, alloc, 16, &rows)
+}
+
+/// By another program coefficients come to 2^62 in the 248th turn, all common factors taken out, so that several threads do
+/// the last 19 gates; and by it the first number is this one. One thread gives the same numbers.
+#[test]
+fn wide_by_threads(rt: HostRuntime) -> Result<(), Fail> {
+    let circuit = deep_circuit(&rt, rt.alloc(), 248)?;
+    assert!(rt; circuit.qubits() <= MAX_UNCUT_QUBITS);
+    let Ok(by_one) = evolve(rt.alloc(), &circuit) else {
+        return Err(Fail::from(AllocError));
+    };
+    let Ok(by_several) = evolve_chunks(&rt, rt.alloc(), &circuit) else {
+        return Err(Fail::from(AllocError));
+    };
+    assert_eq!(rt; by_several.as_slice(), by_one.as_slice());
+    let first = number(
+        -61126144095857992763440490966952181760,
+        -30119738979242510726524029380115562496,
+        -30071500624463049968475163195971993600,
+        25778423816315179154110436074399465472,
+    );
+    assert_eq!(rt; by_several.first(), Some(&first));
+    Ok(())
+}
+
+/// By that program the 254th turn overflows, 12 gates after the one that made the numbers wide.
+#[test]
+fn wide_overflow_by_threads(rt: HostRuntime) -> Result<(), Fail> {
+    let circuit = deep_circuit(&rt, rt.alloc(), 254)?;
+    assert!(rt; circuit.qubits() <= MAX_UNCUT_QUBITS);
+    let by_one = evolve(rt.alloc(), &circuit);
+    assert!(rt; matches!(by_one, Err(UncutFault::Over { gate: 506 })));
+    let by_several = evolve_chunks(&rt, rt.alloc(), &circuit);
+    assert!(rt; matches!(by_several, Err(UncutFault::Over { gate: 506 })));
+    Ok(())
+}

@@ -1,40 +1,10 @@
-use Rattle.std.proofs.Common.{◌≡◌, ◌^◌, ◌∙◌, ℕ, sym, ap, length}
-use Rattle.qh_ring.specs.States.{listed, ground}
-use Rattle.qh_ring.proofs.ListedLemmas.{length-listed}
-use Rattle.qh_uncut.proofs.EvolutionLemmas.{running_none, running_numbers, running_within, gate_done, gate_over}
-use Rattle.qh_uncut.proofs.BoundLemmas.{short_never}
+use Rattle.std.proofs.lemmas.Result.{err_from_is_err_and}
+use Rattle.qh_uncut.proofs.BoundLemmas.{only_memory, short_memory}
 use Rattle.qh_uncut.proofs.chunks.evolve_chunks.Goals as goal
 
-pub loop-i-init : goal.loop-i-init
-loop-i-init g c = record {
-  running = running_none c.args.circuit.now c.in-Ok.v.items (c.in-Ok.ensures.value ∙ ap (λ n. listed n ground) c.qubits-qubits.ensures.value) c.in-Ok.ensures.within;
-  spare = ap length c.in-Ok-ground_vector.ensures.value ∙ length-listed c.qubits-qubits.result ground;
-}
+pub returns-in_err-gates-clause-short : goal.returns-in_err-gates-clause-short
+returns-in_err-gates-clause-short g c short =
+    let p = err_from_is_err_and c.from_residual.result c.from_residual.ensures.1 in rw (p.1, p.2) (only_memory c.args.circuit.now _ short c.in_err-gates.ensures.cause)
 
-pub renew-requires-clause-numbers : goal.renew-requires-clause-numbers
-renew-requires-clause-numbers g c loans lives =
-    running_numbers c.args.circuit.now c.loop-i.i c.loop-i.v.items c.loop-i.invariant.running ∙ ap (λ (n : ℕ). 2 ^ n) (sym c.qubits-qubits.ensures.value)
-
-pub renew-requires-clause-bounded : goal.renew-requires-clause-bounded
-renew-requires-clause-bounded g c loans lives = running_within c.args.circuit.now c.loop-i.i c.loop-i.v.items c.loop-i.invariant.running
-
-pub returns-in_default-renew-clause-cause : goal.returns-in_default-renew-clause-cause
-returns-in_default-renew-clause-cause g c =
-    gate_over c.args.circuit.now c.gates-gate-items.result.now c.loop-i.i _ c.loop-i.v.items c.gates-gate-items.ensures.value c.qubits-qubits.ensures.valid c.loop-i-test.true
-    c.loop-i.invariant.running c.in_default-renew.ensures.over
-
-pub returns-in_default-renew-clause-short : goal.returns-in_default-renew-clause-short
-returns-in_default-renew-clause-short g c short =
-    absurd (short_never c.args.circuit.now c.loop-i.i short
-    (gate_over c.args.circuit.now c.gates-gate-items.result.now c.loop-i.i _ c.loop-i.v.items c.gates-gate-items.ensures.value c.qubits-qubits.ensures.valid c.loop-i-test.true
-    c.loop-i.invariant.running c.in_default-renew.ensures.over))
-
-pub loop-i-preserved : goal.loop-i-preserved
-loop-i-preserved g c = record {
-  running = gate_done c.args.circuit.now c.gates-gate-items.result.now c.loop-i.i _ c.loop-i.v.items c.renew.new.v.items c.gates-gate-items.ensures.value c.qubits-qubits.ensures.valid
-      c.loop-i-test.true c.loop-i.invariant.running c.in-Ok-renew.ensures.exact c.in-Ok-renew.ensures.bounded;
-  spare = c.renew.ensures.places;
-}
-
-pub returns-clause-within : goal.returns-clause-within
-returns-clause-within g c = running_within c.args.circuit.now c.loop-i.i c.loop-i.v.items c.loop-i.invariant.running
+pub returns-clause-short : goal.returns-clause-short
+returns-clause-short g c short = short_memory c.args.circuit.now c.go_on.result short c.go_on.ensures.cause

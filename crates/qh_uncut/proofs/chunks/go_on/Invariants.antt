@@ -1,6 +1,6 @@
 use Rattle.std.proofs.Common.{◌≡◌, ◌^◌, length}
 use Rattle.qh_uncut.proofs.EvolutionLemmas.{IsRunning}
-use Rattle.qh_uncut.proofs.chunks.evolve_chunks.Given as goal
+use Rattle.qh_uncut.proofs.chunks.go_on.Given as goal
 
 abbrev pub invariant-loop-i : goal.invariant-loop-i
 invariant-loop-i g l = record {
