@@ -15,5 +15,5 @@ mod stage;
 pub use index::local_indices;
 pub use part::{Part, part_width};
 pub use place::{Placed, place_gates, place_stage};
-pub use run::{apply_placed, run_placed};
+pub use run::run_placed;
 pub use stage::{Stage, stage_digits};

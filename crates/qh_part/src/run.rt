@@ -57,39 +57,11 @@ fn next_digit(digits: &[u8], used: usize) -> u8
     }
 }
 
-/// Applies a placed gate to the part's half, which is one step. A gate across the cut acts by the factor of this term, and
-/// any other by its matrix. The half may be over, before and after.
-pub fn apply_placed<L: Ledger>(half: &mut Half, gate: &Placed, term: u8, steps: &mut Steps<L>)
-    requires fits { IsPlacedIn half.old.qubits gate.now }
-    requires term { HasTerm term gate.now }
-    ensures size { half.new.qubits ≡ half.old.qubits }
-    ensures after { IsAfter half.old.qubits (operation_by gate.now term ∷ []) half.old.numbers half.new.numbers }
-    ensures step { steps.new ≡ steps.old + 1 }
-{
-    match *gate {
-        Placed::OnOne { kind, qubit } => {
-            let _ = half.apply1(&matrix1(kind), qubit, steps);
-        }
-        Placed::OnTwo {
-            kind,
-            first,
-            second,
-        } => {
-            let _ = half.apply2(&matrix2(kind), first, second, steps);
-        }
-        Placed::FirstHere { kind, qubit } => {
-            let _ = half.apply1(&first_factor(kind, term), qubit, steps);
-        }
-        Placed::SecondHere { kind, qubit } => {
-            let _ = half.apply1(&second_factor(kind, term), qubit, steps);
-        }
-    }
-}
-
 /// Turns that go to the half together.
 type Piece = ArrayVec<Turn, 32>;
 
-/// What a placed gate does to the numbers of so many qubits, as `apply_placed` does it.
+/// What a placed gate does to the numbers of so many qubits: a gate across the cut acts by the factor of this term, and any
+/// other by its matrix.
 fn turn_of(gate: &Placed, term: u8, qubits: u32) -> Turn
     requires fits { IsPlacedIn qubits gate.now }
     requires term { HasTerm term gate.now }

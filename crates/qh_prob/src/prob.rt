@@ -37,7 +37,7 @@ pub fn all_probabilities(alloc: Global, circuit: &Circuit) -> Result<Vec<Prob>, 
     probabilities_of(alloc, circuit, evolved)
 }
 
-/// As [`all_probabilities`], by several threads, which it joins. It takes 64 bytes an index once more.
+/// As [`all_probabilities`], and may evolve by several threads, which it joins. It takes 64 bytes an index once more.
 pub fn chunk_probabilities<R: Threads + Sync>(
     rt: &R,
     alloc: Global,

@@ -34,9 +34,10 @@ pub struct Ran<D> {
 
 /// As [`qsimh_alone`](crate::qsimh_alone), by as many workers as `-t` says, each on a thread of its own.
 ///
-/// A circuit that is not cut evolves by several threads where there are several workers. Each worker passes `gate`; where the gate ends workers, the caller does what they leave. A worker whose
-/// range the timer answers to be due may see it granted to another. The disk is handed back. The call may wait for a lock and for its workers: what is said of it
-/// is said where it returns, and nothing is said of the timer then.
+/// A circuit that is not cut may evolve by several threads where there are several workers. Each worker passes `gate`; where
+/// the gate ends workers, the caller does what they leave. A worker whose range the timer answers to be due may see it granted
+/// to another. The disk is handed back. The call may wait for a lock and for its workers: what is said of it is said where it
+/// returns, and nothing is said of the timer then.
 pub fn qsimh<R, C, B, O, E, D, F, T, W>(
     rt: &R,
     alloc: Global,

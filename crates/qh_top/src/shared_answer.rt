@@ -161,7 +161,7 @@ where
     sums_text(alloc, options.generated, &job, &sums)
 }
 
-/// The text of the probabilities of a circuit of at most 16 qubits, which several threads evolve.
+/// The text of the probabilities of a circuit of at most 16 qubits, which several threads may evolve.
 fn prob_answer_shared<R: Threads + Sync>(
     rt: &R,
     alloc: Global,
@@ -181,7 +181,7 @@ fn prob_answer_shared<R: Threads + Sync>(
     prob_text(alloc, generated, circuit, indices, probs)
 }
 
-/// The text of the amplitudes of a circuit of at most 16 qubits, which several threads evolve.
+/// The text of the amplitudes of a circuit of at most 16 qubits, which several threads may evolve.
 fn amplitude_answer_shared<R: Threads + Sync>(
     rt: &R,
     alloc: Global,
