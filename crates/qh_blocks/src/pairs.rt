@@ -43,7 +43,7 @@ pub(crate) fn new_pair<V: Vector>(
 
 /// The matrix on qubit `q` above the lanes, of 2^qubits blocks.
 #[inline(always)]
-pub(crate) fn pair_blocks<V: Vector>(
+pub fn pair_blocks<V: Vector>(
     v: &mut [Block<V>],
     qubits: u32,
     q: u32,
@@ -100,7 +100,7 @@ pub(crate) fn new_lanes<V: Vector>(
 
 /// The matrix on qubit `q` of the lanes.
 #[inline(always)]
-pub(crate) fn lane_blocks<V: Vector>(
+pub fn lane_blocks<V: Vector>(
     v: &mut [Block<V>],
     q: u32,
     bits: u32,

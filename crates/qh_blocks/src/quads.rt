@@ -34,7 +34,7 @@ pub(crate) fn new_quad<V: Vector>(quad: &Quad<V>, bits: u32, m: &Mat4) -> Quad<V
 
 /// The matrix on the qubits `q0` and `q1`, both above the lanes, of 2^qubits blocks.
 #[inline(always)]
-pub(crate) fn quad_blocks<V: Vector>(
+pub fn quad_blocks<V: Vector>(
     v: &mut [Block<V>],
     qubits: u32,
     q0: u32,
@@ -98,7 +98,7 @@ pub(crate) fn new_high_low<V: Vector>(
 
 /// The matrix on qubit `q0` above the lanes and qubit `q1` of the lanes, of 2^qubits blocks.
 #[inline(always)]
-pub(crate) fn high_low_blocks<V: Vector>(
+pub fn high_low_blocks<V: Vector>(
     v: &mut [Block<V>],
     qubits: u32,
     q0: u32,
@@ -160,7 +160,7 @@ pub(crate) fn new_low_high<V: Vector>(
 
 /// The matrix on qubit `q0` of the lanes and qubit `q1` above them, of 2^qubits blocks.
 #[inline(always)]
-pub(crate) fn low_high_blocks<V: Vector>(
+pub fn low_high_blocks<V: Vector>(
     v: &mut [Block<V>],
     qubits: u32,
     q0: u32,
@@ -222,7 +222,7 @@ pub(crate) fn new_low_low<V: Vector>(
 
 /// The matrix on the qubits `q0` and `q1` of the lanes.
 #[inline(always)]
-pub(crate) fn low_low_blocks<V: Vector>(v: &mut [Block<V>], q0: u32, q1: u32, bits: u32, m: &Mat4)
+pub fn low_low_blocks<V: Vector>(v: &mut [Block<V>], q0: u32, q1: u32, bits: u32, m: &Mat4)
     requires first { q0 < V.PLACES }
     requires second { q1 < V.PLACES }
     requires apart { q0 ≢ q1 }

@@ -11,7 +11,8 @@ ghost use Rattle.qh_narrow.specs.Columns.{first_numbers, AreBlocksOf, AreKept};
 ghost use Rattle.qh_narrow.specs.Factor.{with_factor};
 
 use crate::wide::Wide;
-use qh_blocks::{Block, apply1, apply2, bits_of, fits_after, ground_blocks, take_roots, width_of};
+use qh_blocks::{Block, bits_of, fits_after, ground_blocks, take_roots, width_of};
+use qh_passes::{apply1, apply2};
 use qh_ring::{Mat2, Mat4};
 use qh_vectors::Vector;
 use std::alloc::{AllocError, Global};

@@ -6,7 +6,8 @@ ghost use Rattle.qh_blocks.specs.Blocks.{IsBlock};
 ghost use Rattle.qh_tiles.specs.Turns.{IsTurnIn, width_turned, width_after_turns};
 
 use crate::{Turn, apply_run};
-use qh_blocks::{Block, apply1, apply2, ground_blocks};
+use qh_blocks::{Block, ground_blocks};
+use qh_passes::{apply1, apply2};
 use qh_ring::{Entry, Mat2, Mat4};
 use qh_vectors::Vector;
 use std::alloc::{AllocError, Global};

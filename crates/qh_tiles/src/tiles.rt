@@ -6,7 +6,8 @@ ghost use Rattle.qh_blocks.specs.Numbers.{numbers};
 ghost use Rattle.qh_tiles.specs.Turns.{turned, after_turns, IsTurnIn, width_turned, width_after_turns};
 
 use crate::turn::Turn;
-use qh_blocks::{Block, apply1, apply2, width_of};
+use qh_blocks::{Block, width_of};
+use qh_passes::{apply1, apply2};
 use qh_vectors::Vector;
 
 /// 2^qubits.

@@ -8,8 +8,7 @@ ghost use Rattle.qh_blocks.specs.Blocks.{IsBlock};
 ghost use Rattle.qh_blocks.specs.Numbers.{numbers};
 ghost use Rattle.qh_blocks.specs.Widths.{two_rows, width_after};
 
-use crate::block::Block;
-use crate::pairs::{lane_blocks, pair_blocks};
+use qh_blocks::{Block, lane_blocks, pair_blocks};
 use qh_ring::{Entry, Mat2};
 use qh_vectors::Vector;
 

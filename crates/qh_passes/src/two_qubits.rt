@@ -8,9 +8,8 @@ ghost use Rattle.qh_kernel.specs.Rows.{are_single};
 ghost use Rattle.qh_blocks.specs.Blocks.{IsBlock};
 ghost use Rattle.qh_blocks.specs.Numbers.{numbers};
 
-use crate::block::Block;
-use crate::quads::{high_low_blocks, low_high_blocks, low_low_blocks, quad_blocks};
 use crate::usual::{CNOT, CZ, ID, IS, SW, is_matrix};
+use qh_blocks::{Block, high_low_blocks, low_high_blocks, low_low_blocks, quad_blocks};
 use qh_ring::Mat4;
 use qh_vectors::Vector;
 
