@@ -3,6 +3,9 @@
 //! It takes its words for the paths of journals, hands them over as disks, and ends with the status of the call.
 #![tactic(auto)]
 
+ghost use Rattle.std.specs.Prelude.{◌≡◌, false, IfOk, Some, map};
+ghost use Rattle.std.specs.String.{string_bytes};
+
 use qh_disk::FileDisk;
 use qh_io::{ErrSink, FileSink};
 use qh_limits::MAX_INPUTS;
@@ -44,7 +47,9 @@ fn disks_of<'r, R: Files<File = File> + Sync>(
     rt: &'r R,
     alloc: Global,
     words: Vec<String>,
-) -> Result<Vec<FileDisk<'r, R>>, AllocError> {
+) -> Result<Vec<FileDisk<'r, R>>, AllocError>
+    ensures disks { IfOk result (λ v. v.items ≡ map (λ w. record { path = Some (string_bytes w); changes = false; faults = 0 }) words.items) }
+{
     let mut disks = Vec::new(alloc);
     for word in words {
         disks.push(FileDisk::read_only(rt, Some(word)))?;
