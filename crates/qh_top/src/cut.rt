@@ -13,7 +13,7 @@ ghost use Rattle.qh_request.specs.Parts.{PlanMayStop, JobMayStop, CutMayStop, Jo
 ghost use Rattle.qh_top.specs.Parts.{StopsWith, IsPrintable};
 
 use crate::answer::with_head;
-use crate::table::{cheapest_part, is_auto};
+use qh_auto::{cheapest_part, is_auto};
 use qh_disk::Disk;
 use qh_gates::Circuit;
 use qh_lease::Timer;

@@ -13,7 +13,6 @@ mod names;
 mod shared;
 mod shared_answer;
 mod shared_call;
-mod table;
 
 pub use alone::qsimh_alone;
 pub use names::{Names, file_names};

@@ -13,7 +13,7 @@ ghost use Rattle.qh_request.specs.Outcomes.{MayStopBy, MayStop, Stops, SaysBefor
 ghost use Rattle.qh_request.specs.Parts.{Moves, Ended};
 
 use crate::shared_answer::answer_shared;
-use crate::table::{tell_on, tell_table};
+use qh_auto::{tell_on, tell_table};
 use qh_disk::Disk;
 use qh_io::{Sink, Source, write_all_of};
 use qh_lease::Timer;

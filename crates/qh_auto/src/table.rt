@@ -17,7 +17,7 @@ use qh_words::Options;
 use std::alloc::{AllocError, Global};
 
 /// Whether this text of part 1 asks for the cheapest cut.
-pub(crate) fn is_auto(part: &str) -> bool
+pub fn is_auto(part: &str) -> bool
     ensures { result ≡ is_auto part.now }
 {
     part == "auto"
@@ -51,7 +51,7 @@ fn table_of(
 }
 
 /// Makes the table, and tells it where the cheapest cut is asked for. `whole` tells whether the error sink took all of it.
-pub(crate) fn tell_table<E: Sink>(
+pub fn tell_table<E: Sink>(
     alloc: Global,
     options: &Options,
     circuit: &Circuit,
@@ -81,7 +81,7 @@ pub(crate) fn tell_table<E: Sink>(
 }
 
 /// The qubits below m, for the size m of the cheapest cut of a table.
-pub(crate) fn cheapest_part(alloc: Global, rows: &[CutRow]) -> Result<Vec<u32>, Stop>
+pub fn cheapest_part(alloc: Global, rows: &[CutRow]) -> Result<Vec<u32>, Stop>
     ensures items { IfOk result (λ items. (m : ℕ) × (cost : ℕ) × IsCheapest rows.now m cost × (items.items ≡ first_qubits m)) }
     ensures cause { IfErr result (λ stop. (stop ≡ Stop.Memory) ⊎ ((stop ≡ Stop.Refused Refusal.NoCut) × All IsRefused rows.now)) }
 {
@@ -106,7 +106,7 @@ fn first_qubits(alloc: Global, size: u32) -> Result<Vec<u32>, AllocError>
 }
 
 /// Tells the line of a stop behind what was told before, where the error sink took all of that.
-pub(crate) fn tell_on<E: Sink>(err: &mut E, stop: Stop, whole: bool)
+pub fn tell_on<E: Sink>(err: &mut E, stop: Stop, whole: bool)
     ensures told { whole ≡ true → Says (seen E.held E.faults err.old err.new) (message_of stop) }
     ensures silent { whole ≡ false → err.new ≡ err.old }
     ensures later { E.faults err.old ≤ E.faults err.new }
