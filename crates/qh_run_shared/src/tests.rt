@@ -136,12 +136,15 @@ fn two_workers_compute_at_once(rt: HostRuntime) -> Result<(), Fail> {
     Ok(())
 }
 
-/// No result is lost or invented under the lock, and the workers take all ranges.
+/// No result is lost or invented under the lock, and the workers take all ranges: those that they draw, and one that was given
+/// back and has to be claimed.
 #[test]
 fn two_workers_take_both_ranges(rt: HostRuntime) -> Result<(), Fail> {
     let alloc = rt.alloc();
     let job = Arc::new(alloc, read_job_text(alloc, BELL)?)?;
-    let counts = count(&rt, alloc, &job)?;
-    assert_eq!(rt; (counts.grants, counts.backs, counts.acks), (2, 0, 2));
+    for (returned, wanted) in [(false, (2, 0, 2)), (true, (3, 1, 2))] {
+        let counts = count(&rt, alloc, &job, returned)?;
+        assert_eq!(rt; (counts.grants, counts.backs, counts.acks), wanted);
+    }
     Ok(())
 }

@@ -1,6 +1,11 @@
 //! What lies under the lock.
-ghost use Rattle.std.specs.Prelude.{◌≡◌, ◌<◌, IfSome};
+ghost use Rattle.std.specs.Prelude.{◌≡◌, ◌↔◌, ◌<◌, None, IfSome, IsTrue};
+ghost use Rattle.std.specs.Bool.{OnTrue, OnFalse};
 ghost use Rattle.qh_plan.specs.Jobs.{ranges};
+ghost use Rattle.qh_lease.specs.Lease.{lease_at};
+ghost use Rattle.qh_lease.specs.declared.lease.Lease.TheVariants.{Out};
+ghost use Rattle.qh_board.specs.Claims.{ClaimComes, ClaimDoes, AdmitComes, AdmitDoes, StaysAsIs, TakesBack};
+ghost use Rattle.qh_board.specs.Deliveries.{DeliveryComes, DeliveryDoes};
 ghost use Rattle.qh_workers.specs.Shares.{after_back};
 ghost use Rattle.qh_workers.specs.Claims.{claim_ticket, after_claim, ClaimCause};
 ghost use Rattle.qh_workers.specs.Admissions.{admit_ticket, after_admit, AdmitCause};
@@ -56,6 +61,8 @@ impl<'d, D: Disk, T: Timer, N: Ledgers, M: Named> Locked<'d, D, T, N, M> {
         ensures ticket { IfSome (claim_ticket result) (λ t. t.range < ranges M.run.job) }
         ensures share { share.new ≡ after_claim result share.old }
         ensures cause { ClaimCause (Unit {0}) (Unit {0}) result }
+        ensures comes { ClaimComes T.due_count T.not_due_count T.may_say self.old self.new result }
+        ensures does { ClaimDoes T.granted_count T.hears self.old self.new share.old share.new result }
     {
         self.board.claim(share)
     }
@@ -66,6 +73,8 @@ impl<'d, D: Disk, T: Timer, N: Ledgers, M: Named> Locked<'d, D, T, N, M> {
         ensures ticket { IfSome (admit_ticket result) (λ t. t.range < ranges M.run.job) }
         ensures share { share.new ≡ after_admit result share.old }
         ensures cause { AdmitCause (Unit {0}) result }
+        ensures comes { AdmitComes self.old range result }
+        ensures does { AdmitDoes T.granted_count T.hears self.old self.new share.old share.new result }
     {
         self.board.admit(range, share)
     }
@@ -74,13 +83,18 @@ impl<'d, D: Disk, T: Timer, N: Ledgers, M: Named> Locked<'d, D, T, N, M> {
     pub(crate) fn deliver(&mut self, outcome: RangeResult, share: &mut Share<N>) -> Delivery
         ensures share { share.new ≡ after_delivery result share.old }
         ensures cause { DeliveryCause (Unit {0}) (¬ (outcome.job ≡ M.run.job)) (Unit {0}) (Unit {0}) result }
+        ensures comes { DeliveryComes self.old outcome result }
+        ensures does { DeliveryDoes D.face self.old self.new share.old share.new outcome result }
     {
         self.board.deliver(outcome, share)
     }
 
     /// Gives a ticket back.
     pub(crate) fn give_back(&mut self, ticket: Ticket, share: &mut Share<N>) -> bool
-        ensures { share.new ≡ after_back result share.old }
+        ensures share { share.new ≡ after_back result share.old }
+        ensures held { IsTrue result ↔ ((self.old.course.fault ≡ None) × (lease_at self.old.course.leases ticket.range ≡ Out ticket.attempt)) }
+        ensures back { OnTrue result (TakesBack self.old self.new share.old share.new ticket) }
+        ensures same { OnFalse result (StaysAsIs self.old self.new share.old share.new) }
     {
         self.board.give_back(ticket, share)
     }

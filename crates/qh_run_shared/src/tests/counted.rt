@@ -1,5 +1,5 @@
 //! What two workers were granted and acknowledged on a board without a journal, before any sweep.
-ghost use Rattle.std.specs.Prelude.{◌≡◌};
+ghost use Rattle.std.specs.Prelude.{◌≡◌, None};
 ghost use Rattle.qh_lease.specs.Register.{IsBlankOf};
 ghost use Rattle.qh_lease.specs.Tally.{nothing};
 
@@ -9,6 +9,7 @@ use qh_disk::MemDisk;
 use qh_journal::Journal;
 use qh_lease::{Counted, LEDGER_PARTS, Ledgers, ScriptTimer, Tally, Three, Totals};
 use qh_plan::Job;
+use qh_range::Claim;
 use qh_workers::FreeGate;
 use std::alloc::Global;
 use std::marker::Brand;
@@ -17,8 +18,29 @@ use std::sync::{Arc, Wait};
 use std::test::Fail;
 use std::thread::Threads;
 
-/// Two workers work on a board with this tally and a timer that is never due.
-fn count_by<R, N>(rt: &R, alloc: Global, job: &Arc<Job>, tally: Tally<N>) -> Result<Totals, Fail>
+/// Takes a range and gives it back, so that no worker is admitted to it: one has to claim it.
+fn return_one<'d, N: Ledgers>(board: &mut Board<'d, MemDisk, ScriptTimer, N>)
+    requires running { board.old.course.fault ≡ None }
+    requires out { board.old.tally.out ≡ 0 }
+    ensures job { board.new.job ≡ board.old.job }
+    ensures running { board.new.course.fault ≡ None }
+    ensures out { board.new.tally.out ≡ 0 }
+{
+    let mut share = board.new_share();
+    if let Claim::Granted(ticket) = board.claim(&mut share) {
+        let _ = board.give_back(ticket, &mut share);
+    }
+    board.settle(share);
+}
+
+/// Two workers work on a board with this tally and a timer that is never due. Where `returned` a range was given back before.
+fn count_by<R, N>(
+    rt: &R,
+    alloc: Global,
+    job: &Arc<Job>,
+    tally: Tally<N>,
+    returned: bool,
+) -> Result<Totals, Fail>
 where
     R: Threads + Wait + Sync,
     N: Ledgers + Send + Sync,
@@ -32,9 +54,12 @@ where
     let journal = Journal::<MemDisk>::unkept(alloc, job)?;
     let mut timer = ScriptTimer::new(alloc, &[])?;
     let shared = Arc::try_clone(job)?;
-    let Ok(board) = Board::attach(alloc, journal, shared, &mut timer, tally) else {
+    let Ok(mut board) = Board::attach(alloc, journal, shared, &mut timer, tally) else {
         return Err("no memory for a board".into());
     };
+    if returned {
+        return_one(&mut board);
+    }
     let Worked {
         mut board,
         ready: _,
@@ -48,6 +73,7 @@ fn count_over<R, G, B, A>(
     alloc: Global,
     job: &Arc<Job>,
     blanks: (Blank, Blank, Blank),
+    returned: bool,
 ) -> Result<Totals, Fail>
 where
     R: Threads + Wait + Sync,
@@ -64,19 +90,22 @@ where
         alloc,
         job,
         Tally::<Three<G, B, A>>::new(grants, backs, acks),
+        returned,
     )
 }
 
-/// What two workers were granted, gave back and were acknowledged of the ranges of a job.
+/// What was granted, given back and acknowledged of the ranges of a job after two workers. Where `returned` a range was granted
+/// and given back before they came.
 pub fn count<R: Threads + Wait + Sync>(
     rt: &R,
     alloc: Global,
     job: &Arc<Job>,
+    returned: bool,
 ) -> Result<Totals, Fail> {
     let blanks = (
         Blank::new(LEDGER_PARTS),
         Blank::new(LEDGER_PARTS),
         Blank::new(LEDGER_PARTS),
     );
-    count_over::<R, Brand, Brand, Brand>(rt, alloc, job, blanks)
+    count_over::<R, Brand, Brand, Brand>(rt, alloc, job, blanks, returned)
 }

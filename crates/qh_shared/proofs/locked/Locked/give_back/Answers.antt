@@ -7,6 +7,6 @@ invariant_of-self g c =
     back_facts g.D.Disk.face g.D.Disk.loans g.M.Named.run c.self.inside.board c.give_back.new.self c.args.share.now c.give_back.new.share c.args.ticket c.give_back.result
     c.self.invariant c.give_back.ensures.back c.give_back.ensures.same c.give_back.ensures.begun
 
-pub returns : goal.returns
-returns g c =
+pub returns-clause-share : goal.returns-clause-share
+returns-clause-share g c =
     back_share c.self.inside.board c.give_back.new.self c.args.share.now c.give_back.new.share c.args.ticket c.give_back.result c.give_back.ensures.back c.give_back.ensures.same
