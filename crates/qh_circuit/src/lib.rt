@@ -15,6 +15,3 @@ mod read;
 pub use fault::{CircuitFault, Why};
 pub use print::print_circuit;
 pub use read::read_circuit;
-
-#[cfg(test)]
-mod tests;

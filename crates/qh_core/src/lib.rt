@@ -16,8 +16,6 @@ mod moved;
 mod run;
 mod slot_state;
 mod slots;
-#[cfg(test)]
-mod tests;
 
 pub use event::Event;
 pub use kept::Kept;

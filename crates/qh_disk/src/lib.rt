@@ -19,8 +19,6 @@ mod file;
 mod memory;
 mod pick;
 mod plan;
-#[cfg(test)]
-mod tests;
 
 pub use disk::Disk;
 pub use failed::Failed;

@@ -9,7 +9,5 @@ mod draw;
 mod grid;
 mod layer;
 mod making;
-#[cfg(test)]
-mod tests;
 
 pub use making::generate;

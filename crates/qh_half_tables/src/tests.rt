@@ -1,4 +1,7 @@
 //! One file for each crate below.
 
+mod columns;
 mod drawn;
 mod limits;
+mod runs;
+mod turns;

@@ -11,8 +11,6 @@ mod file_source;
 mod mem_sink;
 mod mem_source;
 mod reading;
-#[cfg(test)]
-mod tests;
 mod writing;
 
 pub use err_sink::ErrSink;

@@ -9,6 +9,3 @@ mod reading;
 
 pub use fault::JobTextFault;
 pub use reading::read_job_text;
-
-#[cfg(test)]
-mod tests;

@@ -19,8 +19,6 @@ mod script_timer;
 mod share;
 mod slip;
 mod tally;
-#[cfg(test)]
-mod tests;
 mod timer;
 mod timer_counts;
 mod totals;

@@ -7,8 +7,6 @@
 mod run;
 mod say;
 mod stop;
-#[cfg(test)]
-mod tests;
 
 pub use qh_union::{MergeFault, Merged, merge};
 pub use run::merge_run;

@@ -7,8 +7,6 @@
 mod fault;
 mod migrating;
 mod moving;
-#[cfg(test)]
-mod tests;
 
 pub use fault::{MigrateFault, OldRefusal};
 pub use migrating::migrate;

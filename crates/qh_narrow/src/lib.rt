@@ -22,6 +22,3 @@ pub use columns::Columns;
 pub use columns16::Columns16;
 pub use columns32::Columns32;
 pub use wide::Wide;
-
-#[cfg(test)]
-mod tests;

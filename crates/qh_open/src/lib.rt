@@ -6,8 +6,6 @@
 
 mod fault;
 mod opening;
-#[cfg(test)]
-mod tests;
 
 pub use fault::OpenFault;
 pub use opening::open_journal;

@@ -26,6 +26,3 @@ pub use part::read_part;
 pub use planning::{are_bits, plan};
 pub use sums::Sums;
 pub use verdict::Verdict;
-
-#[cfg(test)]
-mod tests;

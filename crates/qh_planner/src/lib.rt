@@ -21,6 +21,3 @@ pub use laws::chosen_cut_is_best;
 pub use print::print_table;
 pub use row::{CutAnswer, CutRow};
 pub use table::cut_table;
-
-#[cfg(test)]
-mod tests;

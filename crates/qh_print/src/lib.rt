@@ -9,8 +9,6 @@ mod laws;
 mod lines;
 mod print;
 mod read;
-#[cfg(test)]
-mod tests;
 mod word;
 
 pub use laws::one_text;

@@ -9,6 +9,3 @@ mod reading;
 
 pub use fault::JobFault;
 pub use reading::read_job;
-
-#[cfg(test)]
-mod tests;

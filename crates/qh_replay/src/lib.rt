@@ -11,8 +11,6 @@
 mod course;
 mod laws;
 mod noted;
-#[cfg(test)]
-mod tests;
 
 pub use course::Course;
 pub use laws::{

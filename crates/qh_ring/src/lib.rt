@@ -17,6 +17,3 @@ pub use laws::apply_is_the_sum_over_agreeing_indices;
 pub use matrix::{Entry, Mat2, Mat4};
 pub use number::{Omega, add_bounded, times_unit, within};
 pub use product::{TooWide, mul_checked};
-
-#[cfg(test)]
-mod tests;

@@ -10,6 +10,3 @@ mod turn;
 
 pub use tiles::apply_run;
 pub use turn::Turn;
-
-#[cfg(test)]
-mod tests;

@@ -12,6 +12,3 @@ mod total;
 
 pub use laws::running_total_is_the_total;
 pub use total::RunningTotal;
-
-#[cfg(test)]
-mod tests;

@@ -19,6 +19,3 @@ mod slots;
 pub use fault::MergeFault;
 pub use laws::{made_journals_are_true, merged_journals_give_the_uncut_answer};
 pub use merging::{Merged, merge};
-
-#[cfg(test)]
-mod tests;

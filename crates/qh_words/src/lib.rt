@@ -17,6 +17,3 @@ pub use options::Options;
 pub use read::read_words;
 pub use size::GenSize;
 pub use text::Text;
-
-#[cfg(test)]
-mod tests;

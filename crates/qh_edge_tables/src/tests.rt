@@ -1,0 +1,4 @@
+//! One file for each crate below.
+
+mod io;
+mod words;

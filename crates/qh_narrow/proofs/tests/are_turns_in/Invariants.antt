@@ -1,7 +1,0 @@
-use Rattle.std.proofs.Common.{take}
-use Rattle.std.specs.List.{All}
-use Rattle.qh_tiles.specs.Turns.{IsTurnIn}
-use Rattle.qh_narrow.proofs.tests.are_turns_in.Given as goal
-
-abbrev pub invariant-loop-turn : goal.invariant-loop-turn
-invariant-loop-turn l = All (IsTurnIn l.limit) (take l.turn-index l.run)

@@ -1,0 +1,9 @@
+//! One file for each crate below.
+
+mod circuit;
+mod generated;
+mod job_text;
+mod plan;
+mod planner;
+mod print;
+mod ring;
