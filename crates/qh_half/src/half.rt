@@ -26,7 +26,7 @@ use std::sync::ledger::Ledger;
 pub struct Half {
     qubits: u32,
     form: Form,
-    places: Places,
+    places: Box<Places>,
 }
 
 impl Model for Half {
@@ -35,9 +35,9 @@ impl Model for Half {
 
     ghost Value = { Half };
 
-    ghost view = { λ h. record { qubits = h.qubits; numbers = held h.form h.places } };
+    ghost view = { λ h. record { qubits = h.qubits; numbers = held h.form h.places.value } };
 
-    ghost invariant = { λ h. IsKept h.qubits h.form h.places };
+    ghost invariant = { λ h. IsKept h.qubits h.form h.places.value };
 }
 
 /// Counts so many steps.
@@ -59,7 +59,8 @@ impl Half {
         requires few { qubits ≤ max_part_qubits }
         ensures { IfOk result (λ h. h ≡ record { qubits = qubits; numbers = Some (listed qubits ground) }) }
     {
-        let places = Places::ground(alloc, qubits)?;
+        let ground = Places::ground(alloc, qubits)?;
+        let places = Box::new(alloc, ground)?;
         Ok(Half {
             qubits,
             form: Form::Narrow16(0),
@@ -98,7 +99,7 @@ impl Half {
         ensures value { IfSome self.now.numbers (λ v. result ≡ at_index v index) }
         ensures bounded { IsWithin coefficient_bits result }
     {
-        number_of(self.form, &self.places, self.qubits, index)
+        number_of(self.form, &*self.places, self.qubits, index)
     }
 
     /// Applies the matrix to qubit `q`, which is one step. It is Over exactly where the half was over already or a new
@@ -112,7 +113,7 @@ impl Half {
         ensures step { steps.new ≡ steps.old + 1 }
     {
         steps.tick();
-        self.form = turn1(self.form, &mut self.places, self.qubits, m, q);
+        self.form = turn1(self.form, &mut *self.places, self.qubits, m, q);
         answer_of(self.form)
     }
 
@@ -137,7 +138,7 @@ impl Half {
         ensures step { steps.new ≡ steps.old + 1 }
     {
         steps.tick();
-        turn2(self.form, &mut self.places, self.qubits, m, q0, q1);
+        turn2(self.form, &mut *self.places, self.qubits, m, q0, q1);
         answer_of(self.form)
     }
 
@@ -151,7 +152,7 @@ impl Half {
         ensures steps { steps.new ≡ steps.old + length run.now }
     {
         tick_all(run.len(), steps);
-        self.form = turn_all(self.form, &mut self.places, self.qubits, run);
+        self.form = turn_all(self.form, &mut *self.places, self.qubits, run);
     }
 
     /// Becomes the other half, of as many qubits: its numbers, or its being over.
@@ -159,7 +160,7 @@ impl Half {
         requires { self.old.qubits ≡ other.now.qubits }
         ensures { self.new ≡ other.now }
     {
-        let places = &mut self.places;
+        let places = &mut *self.places;
         match other.form {
             Form::Narrow16(_) => places.narrow16.copy_from(&other.places.narrow16),
             Form::Narrow32(_) => places.narrow32.copy_from(&other.places.narrow32),

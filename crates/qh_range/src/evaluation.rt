@@ -20,7 +20,7 @@ use crate::ticket::Ticket;
 use qh_half::Half;
 use qh_part::{Stage, stage_digits};
 use qh_plan::{Job, Sums, Verdict};
-use qh_prefix::{Checkpoint, make_checkpoint};
+use qh_prefix::Checkpoint;
 use qh_ring::Omega;
 use qh_steps::Steps;
 use std::alloc::{AllocError, Global};
@@ -112,11 +112,8 @@ pub fn evaluate<L: Ledger>(
     ensures memory { OnErr result (steps.new ≡ steps.old) }
 {
     let mut room = Room::new(alloc, job)?;
-    let zeros = room.zeros(alloc)?;
-    let shared = Arc::try_clone(job)?;
-    if let Some(point) = point {
-        return Ok(room.run(shared, zeros, ticket, point, steps));
+    match point {
+        Some(point) => room.evaluate(alloc, ticket, point, steps),
+        None => room.evaluate_alone(alloc, ticket, steps),
     }
-    let made = make_checkpoint(alloc, job, job.prefix_of(ticket.range()), steps)?;
-    Ok(room.run(shared, zeros, ticket, &made, steps))
 }

@@ -4,11 +4,11 @@ ghost use Rattle.std.specs.Arc.{arc_value};
 
 use crate::evaluation::{go_to_root, sum_range};
 use crate::result::RangeResult;
-use crate::side::{Side, new_side};
+use crate::side::{Side, boxed_side};
 use crate::ticket::Ticket;
 use qh_part::Part;
 use qh_plan::Job;
-use qh_prefix::Checkpoint;
+use qh_prefix::{Checkpoint, make_checkpoint};
 use qh_ring::Omega;
 use qh_steps::Steps;
 use std::alloc::{AllocError, Global};
@@ -21,8 +21,8 @@ use std::sync::ledger::Ledger;
 #[derive(Drop)]
 pub struct Room {
     job: Arc<Job>,
-    one: Side,
-    two: Side,
+    one: Box<Side>,
+    two: Box<Side>,
 }
 
 impl Model for Room {
@@ -34,7 +34,7 @@ impl Model for Room {
 
     ghost view = { λ r. arc_value r.job };
 
-    ghost invariant = { λ r. IsRoom (arc_value r.job) r.one r.two };
+    ghost invariant = { λ r. IsRoom (arc_value r.job) r.one.value r.two.value };
 }
 
 impl Room {
@@ -44,14 +44,14 @@ impl Room {
     ghost use Rattle.qh_plan.specs.Jobs.{IsJob, ranges};
     ghost use Rattle.qh_plan.specs.Ranges.{prefix_of};
     ghost use Rattle.qh_meaning.specs.Values.{range_value};
-    ghost use Rattle.qh_range.specs.Steps.{range_steps};
+    ghost use Rattle.qh_range.specs.Steps.{range_steps, whole_steps};
 
     /// A room for ranges of the job. It takes four halves.
     pub fn new(alloc: Global, job: &Arc<Job>) -> Result<Room, AllocError>
         ensures { IfOk result (λ r. r ≡ arc_value job.now) }
     {
-        let one = new_side(alloc, job, Part::One)?;
-        let two = new_side(alloc, job, Part::Two)?;
+        let one = boxed_side(alloc, job, Part::One)?;
+        let two = boxed_side(alloc, job, Part::Two)?;
         let shared = Arc::try_clone(job)?;
         Ok(Room {
             job: shared,
@@ -92,8 +92,9 @@ impl Room {
     {
         let range = ticket.range();
         let from = (point.one(), point.two());
-        go_to_root(&self.job, range, from, &mut self.one, &mut self.two, steps);
-        let verdict = sum_range(&self.job, range, &mut self.one, &mut self.two, zeros, steps);
+        let (one, two) = (&mut *self.one, &mut *self.two);
+        go_to_root(&self.job, range, from, one, two, steps);
+        let verdict = sum_range(&self.job, range, one, two, zeros, steps);
         RangeResult::of_value(job, range, ticket.attempt(), verdict)
     }
 
@@ -120,5 +121,28 @@ impl Room {
         let zeros = self.zeros(alloc)?;
         let shared = Arc::try_clone(&self.job)?;
         Ok(self.run(shared, zeros, ticket, point, steps))
+    }
+
+    /// Evaluates the range of a ticket from a checkpoint that it makes and gives back. It takes one number a bitstring, and
+    /// two halves.
+    pub(crate) fn evaluate_alone<L: Ledger>(
+        &mut self,
+        alloc: Global,
+        ticket: &Ticket,
+        steps: &mut Steps<L>,
+    ) -> Result<RangeResult, AllocError>
+        requires { ticket.now.range < ranges self.old }
+        ensures job { IfOk result (λ r. r.job ≡ self.old) }
+        ensures range { IfOk result (λ r. r.range ≡ ticket.now.range) }
+        ensures attempt { IfOk result (λ r. r.attempt ≡ ticket.now.attempt) }
+        ensures value { IfOk result (λ r. r.verdict ≡ range_value self.old ticket.now.range) }
+        ensures steps { steps.new ≤ steps.old + whole_steps self.old }
+        ensures memory { OnErr result (steps.new ≡ steps.old) }
+    {
+        let zeros = self.zeros(alloc)?;
+        let shared = Arc::try_clone(&self.job)?;
+        let prefix = self.job.prefix_of(ticket.range());
+        let point = make_checkpoint(alloc, &self.job, prefix, steps)?;
+        Ok(self.run(shared, zeros, ticket, &point, steps))
     }
 }

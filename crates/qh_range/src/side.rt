@@ -28,7 +28,7 @@ pub(crate) struct Side {
 }
 
 /// Places the gates and takes the memory of a part.
-pub(crate) fn new_side(alloc: Global, job: &Job, part: Part) -> Result<Side, AllocError>
+fn new_side(alloc: Global, job: &Job, part: Part) -> Result<Side, AllocError>
     ensures { IfOk result (λ s. IsSide part job.now s) }
 {
     let root_gates = place_stage(alloc, job, part, Stage::Root)?;
@@ -44,6 +44,14 @@ pub(crate) fn new_side(alloc: Global, job: &Job, part: Part) -> Result<Side, All
         half,
         indices,
     })
+}
+
+/// The same in memory of its own, so that a side is moved and given back as one.
+pub(crate) fn boxed_side(alloc: Global, job: &Job, part: Part) -> Result<Box<Side>, AllocError>
+    ensures { IfOk result (λ s. IsSide part job.now s.value) }
+{
+    let side = new_side(alloc, job, part)?;
+    Ok(Box::new(alloc, side)?)
 }
 
 /// Brings the half at the root from a half at the prefix along these digits, one step for each placed gate of the root.

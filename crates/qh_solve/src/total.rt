@@ -1,10 +1,14 @@
 //! The total of a run.
-ghost use Rattle.std.specs.Prelude.{◌≡◌, ◌<◌, IfOk, length, All};
+ghost use Rattle.std.specs.Prelude.{◌≡◌, ◌<◌, ◌+◌, IfOk, IfSome, None, length, All};
 ghost use Rattle.std.specs.Arc.{arc_value};
 ghost use Rattle.qh_limits.specs.Limits.{coefficient_bits};
 ghost use Rattle.qh_ring.specs.Numbers.{IsWithin};
-ghost use Rattle.qh_plan.specs.Jobs.{prefixes};
+ghost use Rattle.qh_plan.specs.declared.verdict.Verdict.TheVariants.{Sum, Over as OverPath};
+ghost use Rattle.qh_plan.specs.Jobs.{IsJob, prefixes, ranges};
+ghost use Rattle.qh_plan.specs.Ranges.{prefix_of};
 ghost use Rattle.qh_plan.specs.Verdicts.{added};
+ghost use Rattle.qh_meaning.specs.Values.{run_value};
+ghost use Rattle.qh_solve.specs.Totals.{total_of};
 ghost use Rattle.qh_solve.specs.RunTotals.{IsRunTotal};
 
 use qh_plan::{Job, Verdict};
@@ -57,8 +61,65 @@ fn point_for<L: Ledger>(
     make_checkpoint(alloc, job, prefix, steps)
 }
 
-/// Evaluates the ranges in order and adds them up, in one room and from one checkpoint a prefix value. The first path that
-/// is over is the run's least.
+/// Evaluates a range in the room, from the checkpoint of its prefix value, and adds its sums in place; or tells its least
+/// path that is over, and adds nothing.
+fn add_range<L: Ledger>(
+    alloc: Global,
+    job: &Job,
+    range: u32,
+    room: &mut Room,
+    point: &Checkpoint,
+    sums: &mut [Omega],
+    steps: &mut Steps<L>,
+) -> Result<Option<u64>, AllocError>
+    requires valid { IsJob job.now }
+    requires below { range < ranges job.now }
+    requires room { room.old ≡ job.now }
+    requires point_job { point.now.job ≡ job.now }
+    requires point_prefix { point.now.prefix ≡ prefix_of job.now range }
+    requires total { total_of job.now range ≡ Sum sums.old }
+    ensures room { room.new ≡ room.old }
+    ensures more { IfOk result (λ over. over ≡ None → total_of job.now (range + 1) ≡ Sum sums.new) }
+    ensures over { IfOk result (λ over. IfSome over (λ path. run_value job.now ≡ OverPath path)) }
+{
+    let result = room.evaluate(alloc, &Ticket::new(range, 0), point, steps)?;
+    match result.into_verdict() {
+        Verdict::Over { path } => Ok(Some(path)),
+        Verdict::Sum(more) => {
+            add_all(sums, more.values());
+            Ok(None)
+        }
+    }
+}
+
+/// Evaluates the ranges in order, in one room and from one checkpoint a prefix value, and adds their sums in place. The
+/// first path that is over is the run's least, and what follows it is not evaluated.
+fn add_ranges<L: Ledger>(
+    alloc: Global,
+    job: &Arc<Job>,
+    room: &mut Room,
+    first: Checkpoint,
+    sums: &mut [Omega],
+    steps: &mut Steps<L>,
+) -> Result<Option<u64>, AllocError>
+    requires room { room.old ≡ arc_value job.now }
+    requires total { total_of (arc_value job.now) 0 ≡ Sum sums.old }
+    ensures whole { IfOk result (λ over. over ≡ None → run_value (arc_value job.now) ≡ Sum sums.new) }
+    ensures within { IfOk result (λ over. over ≡ None → All (IsWithin coefficient_bits) sums.new) }
+    ensures over { IfOk result (λ over. IfSome over (λ path. run_value (arc_value job.now) ≡ OverPath path)) }
+{
+    let mut point = first;
+    for range in 0..job.ranges() {
+        point = point_for(alloc, job, job.prefix_of(range), point, steps)?;
+        let over = add_range(alloc, job, range, room, &point, sums, steps)?;
+        if over.is_some() {
+            return Ok(over);
+        }
+    }
+    Ok(None)
+}
+
+/// Adds up all ranges, from sums of 0.
 pub(crate) fn run_total<L: Ledger>(
     alloc: Global,
     job: &Arc<Job>,
@@ -68,14 +129,9 @@ pub(crate) fn run_total<L: Ledger>(
 {
     let mut sums = vec![in alloc; Omega::ZERO; job.bits().len()]?;
     let mut room = Room::new(alloc, job)?;
-    let mut point = make_checkpoint(alloc, job, job.prefix_of(0), steps)?;
-    for range in 0..job.ranges() {
-        point = point_for(alloc, job, job.prefix_of(range), point, steps)?;
-        let result = room.evaluate(alloc, &Ticket::new(range, 0), &point, steps)?;
-        match result.into_verdict() {
-            Verdict::Over { path } => return Ok(Total::Over(path)),
-            Verdict::Sum(more) => add_all(&mut sums, more.values()),
-        }
+    let first = make_checkpoint(alloc, job, job.prefix_of(0), steps)?;
+    match add_ranges(alloc, job, &mut room, first, &mut sums, steps)? {
+        Some(path) => Ok(Total::Over(path)),
+        None => Ok(Total::Sums(sums)),
     }
-    Ok(Total::Sums(sums))
 }
