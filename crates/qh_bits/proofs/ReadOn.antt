@@ -1,7 +1,7 @@
 -- A text of bitstrings is read line by line.
 use Rattle.std.proofs.Common.{◌≡◌, ◌≢◌, ℕ, List, [], ◌∷◌, ◌++◌, length, Some, None, Ok, Err, Result, refl, ap, length-append, append_assoc, append-nil}
-use Rattle.qh_lines.specs.Lines.{content_of}
-use Rattle.qh_lines.specs.Words.{trimmed}
+use Rattle.qh_text.specs.Lines.{content_of}
+use Rattle.qh_text.specs.LineWords.{trimmed}
 use Rattle.qh_text.specs.Bitstrings.{index_of}
 use Rattle.qh_bits.specs.Strings.{fault_of}
 use Rattle.qh_bits.specs.Texts.{faults_in, indices_in, answer, bits_of}

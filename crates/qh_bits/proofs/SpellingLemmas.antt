@@ -4,8 +4,8 @@ use Rattle.std.proofs.Math.Path.{ap₂}
 use Rattle.std.specs.declared.option.Option.{Option}
 use Rattle.std.specs.List.{cons_option}
 use Rattle.std.specs.Option.{option_map}
-use Rattle.qh_lines.specs.Lines.{content_of}
-use Rattle.qh_lines.specs.Words.{trimmed}
+use Rattle.qh_text.specs.Lines.{content_of}
+use Rattle.qh_text.specs.LineWords.{trimmed}
 use Rattle.qh_text.specs.Bitstrings.{bits_text, index_of}
 use Rattle.qh_text.proofs.BitLemmas.{string_of_index}
 use Rattle.qh_bits.specs.Strings.{fault_of}

@@ -2,8 +2,8 @@
 use Rattle.std.specs.Prelude.{ℕ, List, [], ◌∷◌, map, Option, Result, Ok, Err}
 use Rattle.std.specs.List.{filter_map, enumerate_from}
 use Rattle.std.specs.Option.{option_map}
-use Rattle.qh_lines.specs.Lines.{content_of}
-use Rattle.qh_lines.specs.Words.{trimmed}
+use Rattle.qh_text.specs.Lines.{content_of}
+use Rattle.qh_text.specs.LineWords.{trimmed}
 use Rattle.qh_text.specs.Bitstrings.{index_of}
 use Rattle.qh_bits.specs.Strings.{fault_of}
 use Rattle.qh_bits.specs.declared.faults.BitsWhy.TheVariants.{NoStrings}

@@ -8,8 +8,6 @@
 mod faults;
 mod reading;
 mod string;
-#[cfg(test)]
-mod tests;
 
 pub use faults::{BitsFault, BitsWhy};
 pub use reading::read_bits;

@@ -6,7 +6,7 @@ ghost use Rattle.qh_bits.specs.Texts.{bits_of, strings_of};
 
 use crate::faults::{BitsFault, BitsWhy};
 use crate::string::read_string;
-use qh_lines::{ContentLines, trimmed};
+use qh_text::{ContentLines, trimmed};
 use std::alloc::Global;
 
 /// The basis indices of the strings of a text, in the order of the lines, repeats included.

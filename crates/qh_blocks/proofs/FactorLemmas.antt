@@ -9,7 +9,7 @@ use Rattle.std.proofs.lemmas.Nat.{pow-add, pow_pos, mod_below}
 use Rattle.qh_ring.specs.declared.number.Omega.{Omega}
 use Rattle.qh_ring.specs.Numbers.{sum, product, nothing, root, times_root}
 use Rattle.qh_ring.proofs.NumberLemmas.{same_number, product_comm, nothing_times, root_times, times_root_add, times_root_injective}
-use Rattle.qh_vectors.specs.Lanes.{at_lane, AreBelow}
+use Rattle.qh_kernel.specs.Lanes.{at_lane, AreBelow}
 use Rattle.qh_blocks.specs.declared.block.Block.{Block}
 use Rattle.qh_blocks.specs.Blocks.{lane, IsBlock}
 use Rattle.qh_blocks.specs.Numbers.{number_at, number_in_block}

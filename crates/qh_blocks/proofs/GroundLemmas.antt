@@ -8,7 +8,7 @@ use Rattle.std.proofs.lemmas.List.{length-replicate, get_or-replicate, get_or-se
 use Rattle.std.proofs.lemmas.List.Elements.{All-set, All-replicate}
 use Rattle.qh_ring.specs.Numbers.{IsBelow, nothing}
 use Rattle.qh_ring.specs.States.{ground, listed}
-use Rattle.qh_vectors.specs.Lanes.{AreBelow}
+use Rattle.qh_kernel.specs.Lanes.{AreBelow}
 use Rattle.qh_blocks.specs.declared.block.Block.{Block}
 use Rattle.qh_blocks.specs.Blocks.{lane, IsBlock}
 use Rattle.qh_blocks.specs.Numbers.{number_at, number_in_block, numbers}

@@ -8,7 +8,7 @@ use Rattle.qh_ring.specs.declared.number.Omega.{Omega}
 use Rattle.qh_ring.specs.Numbers.{sum, product}
 use Rattle.qh_ring.specs.States.{with_bit, applied}
 use Rattle.qh_ring.proofs.PairLemmas.{pair_of, applied_pair}
-use Rattle.qh_vectors.specs.Lanes.{flipped, chosen}
+use Rattle.qh_kernel.specs.Lanes.{flipped, chosen}
 
 flip_low : (q r : ℕ) → bit_at r q ≡ 0 → flipped q r ≡ r + 2 ^ q
 unfolding with_bit

@@ -16,7 +16,7 @@ use Rattle.qh_ring.proofs.AgreeLemmas.{bits_below, bits_twice, place_bits, back}
 use Rattle.std.proofs.Math.Nat.{mod-eq_of_lt}
 use Rattle.qh_kernel.proofs.PlaceLemmas.{IsGroup, HasPlacesOf}
 use Rattle.qh_kernel.proofs.DoneLemmas.{AreQubits}
-use Rattle.qh_vectors.proofs.BoundLemmas.{below_more}
+use Rattle.qh_kernel.proofs.BoundLemmas.{below_more}
 use Rattle.qh_blocks.specs.declared.block.Block.{Block}
 use Rattle.qh_blocks.specs.Blocks.{lane, IsBlock}
 use Rattle.qh_blocks.specs.Numbers.{number_in_block, number_at, numbers}

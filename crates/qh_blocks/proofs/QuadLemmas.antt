@@ -15,7 +15,7 @@ use Rattle.qh_ring.proofs.SumLemmas.{sum_below_same}
 use Rattle.qh_kernel.proofs.PlaceLemmas.{rank2, HasPlacesOf, below_four}
 use Rattle.qh_kernel.proofs.GroupLemmas.{two_qubits, IsQuadAt}
 use Rattle.qh_kernel.proofs.DoneLemmas.{AreQubits}
-use Rattle.qh_vectors.specs.Lanes.{flipped, chosen}
+use Rattle.qh_kernel.specs.Lanes.{flipped, chosen}
 use Rattle.qh_blocks.specs.declared.block.Block.{Block}
 use Rattle.qh_blocks.specs.Blocks.{lane, block_of, IsBlock, AreFour}
 use Rattle.qh_blocks.specs.Numbers.{number_at, one_of_four, row_of_four}

@@ -6,7 +6,7 @@ use Rattle.std.specs.List.{All}
 use Rattle.std.proofs.lemmas.Nat.{mul-le}
 use Rattle.std.proofs.lemmas.Bool.{cases_eq}
 use Rattle.qh_ring.specs.Numbers.{IsWithin, nothing}
-use Rattle.qh_vectors.specs.Lanes.{at_lane, AreBelow}
+use Rattle.qh_kernel.specs.Lanes.{at_lane, AreBelow}
 use Rattle.qh_blocks.specs.declared.block.Block.{Block}
 use Rattle.qh_blocks.specs.Blocks.{lane, IsBlock}
 use Rattle.qh_blocks.specs.Numbers.{numbers, number_in_block}

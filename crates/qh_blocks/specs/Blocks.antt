@@ -1,7 +1,7 @@
 -- The numbers of a block, by what gives the lanes of a vector.
 use Rattle.std.specs.Prelude.{ℕ, zero, suc, ℤ, List, neg_ℤ}
 use Rattle.qh_ring.specs.declared.number.Omega.{Omega}
-use Rattle.qh_vectors.specs.Lanes.{at_lane, AreBelow}
+use Rattle.qh_kernel.specs.Lanes.{at_lane, AreBelow}
 use Rattle.qh_blocks.specs.declared.block.Block.{Block}
 
 -- number r of a block

@@ -2,7 +2,7 @@
 use Rattle.std.specs.Prelude.{◌≡◌, ℕ, ◌<◌, ℤ, List, length}
 use Rattle.qh_ring.specs.declared.number.Omega.{Omega}
 use Rattle.qh_ring.specs.Numbers.{times_root}
-use Rattle.qh_vectors.specs.Lanes.{IsEven}
+use Rattle.qh_kernel.specs.Lanes.{IsEven}
 use Rattle.qh_blocks.specs.declared.block.Block.{Block}
 use Rattle.qh_blocks.specs.Blocks.{lane}
 use Rattle.qh_blocks.specs.Numbers.{number_at}

@@ -7,7 +7,7 @@ ghost use Rattle.qh_blocks.specs.Blocks.{lane, IsBlock};
 ghost use Rattle.qh_blocks.specs.Numbers.{numbers};
 
 use crate::groups::stride_of;
-use qh_vectors::Vector;
+use qh_kernel::Vector;
 use std::alloc::{AllocError, Global};
 
 /// Numbers a + bω + cω² + dω³.

@@ -7,7 +7,7 @@ ghost use Rattle.qh_blocks.specs.Factors.{AreEven, HasFactor};
 use crate::block::Block;
 use crate::groups::block_at;
 use crate::rows::negated;
-use qh_vectors::Vector;
+use qh_kernel::Vector;
 
 /// Each number, or √2 times it where `roots` is 1.
 #[inline(always)]

@@ -13,8 +13,8 @@ use crate::block::Block;
 use crate::groups::{block_at, index_with_gap, stride_of};
 use crate::pairs::{new_lanes, new_pair};
 use crate::scan::block_most;
+use qh_kernel::Vector;
 use qh_ring::{Entry, Mat2};
-use qh_vectors::Vector;
 
 /// Whether each coefficient's magnitude is below 2^limit.
 fn is_within<V: Vector>(x: &Block<V>, limit: u32) -> bool

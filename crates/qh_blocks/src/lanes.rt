@@ -1,11 +1,11 @@
 //! Exchange and choice among the lanes of a block.
 ghost use Rattle.std.specs.Prelude.{◌≡◌, ◌<◌, ◌≤◌, ◌+◌, ◌^◌, ℕ, [], ◌∷◌, length, All};
-ghost use Rattle.qh_vectors.specs.Lanes.{flipped, chosen};
+ghost use Rattle.qh_kernel.specs.Lanes.{flipped, chosen};
 ghost use Rattle.qh_blocks.specs.Blocks.{lane, IsBlock};
 ghost use Rattle.qh_blocks.specs.Numbers.{numbers};
 
 use crate::block::Block;
-use qh_vectors::Vector;
+use qh_kernel::Vector;
 
 /// Each number's partner.
 #[inline(always)]

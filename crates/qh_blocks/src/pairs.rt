@@ -13,8 +13,8 @@ use crate::block::Block;
 use crate::groups::{block_at, index_with_gap, put_pair, stride_of};
 use crate::lanes::{blended, partners};
 use crate::rows::pair_row;
+use qh_kernel::Vector;
 use qh_ring::Entry;
-use qh_vectors::Vector;
 
 /// The new blocks of a pair.
 #[inline(always)]

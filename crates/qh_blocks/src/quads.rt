@@ -4,7 +4,7 @@ ghost use Rattle.qh_limits.specs.Limits.{max_part_qubits};
 ghost use Rattle.qh_ring.specs.Matrices.{number_in};
 ghost use Rattle.qh_ring.specs.States.{applied, applied_list};
 ghost use Rattle.qh_kernel.specs.Rows.{are_single};
-ghost use Rattle.qh_vectors.specs.Lanes.{flipped, chosen};
+ghost use Rattle.qh_kernel.specs.Lanes.{flipped, chosen};
 ghost use Rattle.qh_blocks.specs.Blocks.{lane, block_of, IsBlock, AreFour};
 ghost use Rattle.qh_blocks.specs.Numbers.{numbers, row_of_four};
 
@@ -12,8 +12,8 @@ use crate::block::Block;
 use crate::groups::{Quad, block_at, index_with_gap, put_pair, put_quad, quad_at, stride_of};
 use crate::lanes::{blended, partners};
 use crate::rows::quad_row;
+use qh_kernel::Vector;
 use qh_ring::Mat4;
-use qh_vectors::Vector;
 
 /// The new blocks of a quad.
 #[inline(always)]

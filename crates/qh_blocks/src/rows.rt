@@ -11,8 +11,8 @@ ghost use Rattle.qh_blocks.specs.Numbers.{one_of_four};
 ghost use Rattle.qh_blocks.specs.Widths.{row_width};
 
 use crate::block::{Block, nothing_block};
+use qh_kernel::Vector;
 use qh_ring::Entry;
-use qh_vectors::Vector;
 
 /// Each number negated.
 #[inline(always)]

@@ -1,10 +1,10 @@
 //! The true bound of a state.
 ghost use Rattle.std.specs.Prelude.{◌≡◌, ◌<◌, ◌≤◌, ◌^◌, ℕ, length, All};
-ghost use Rattle.qh_vectors.specs.Lanes.{AreBelow};
+ghost use Rattle.qh_kernel.specs.Lanes.{AreBelow};
 ghost use Rattle.qh_blocks.specs.Blocks.{IsBlock};
 
 use crate::block::Block;
-use qh_vectors::Vector;
+use qh_kernel::Vector;
 
 /// The greatest magnitude of a coefficient, in each lane.
 #[inline(always)]

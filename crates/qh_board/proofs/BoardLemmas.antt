@@ -11,10 +11,10 @@ use Rattle.qh_lease.specs.declared.lease.Lease.{Lease}
 use Rattle.qh_lease.specs.declared.lease.Lease.TheVariants.{Fresh, Out, Returned, Acked}
 use Rattle.qh_lease.specs.Lease.{lease_at, is_acked, is_fresh, may_grant, may_grant_out, may_grant_returned}
 use Rattle.qh_lease.specs.Tally.{Count}
-use Rattle.qh_replay.specs.declared.noted.Noted.{Noted}
-use Rattle.qh_replay.specs.declared.noted.Noted.TheVariants.{Granted as NotedGranted, Back as NotedBack, Acked as NotedAcked, Halted as NotedHalted}
-use Rattle.qh_replay.specs.Noted.{counted, is_grant, is_back, is_ack}
-use Rattle.qh_replay.specs.Replay.{CourseView, is_begun}
+use Rattle.qh_core.specs.declared.noted.Noted.{Noted}
+use Rattle.qh_core.specs.declared.noted.Noted.TheVariants.{Granted as NotedGranted, Back as NotedBack, Acked as NotedAcked, Halted as NotedHalted}
+use Rattle.qh_core.specs.Noted.{counted, is_grant, is_back, is_ack}
+use Rattle.qh_core.specs.Replay.{CourseView, is_begun}
 use Rattle.qh_range.specs.Results.{Ticket}
 use Rattle.qh_board.specs.Board.{BoardView, IsBoard, BeganWith, begun}
 use Rattle.qh_board.specs.Claims.{IsNext, granted, given_back, one_grant, one_back}

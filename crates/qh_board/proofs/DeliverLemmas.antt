@@ -7,20 +7,20 @@ use Rattle.std.proofs.lemmas.List.{length-set, get_or-set_same, get_or-set_other
 use Rattle.qh_plan.specs.declared.verdict.Verdict.{Verdict}
 use Rattle.qh_plan.specs.Jobs.{Job, ranges}
 use Rattle.qh_plan.specs.Ranges.{Fits}
-use Rattle.qh_meaning.specs.Values.{range_value}
+use Rattle.qh_plan.specs.Values.{range_value}
 use Rattle.qh_disk.specs.Disk.{Face, Reads}
 use Rattle.qh_slots.specs.Stands.{Slots, Stands, slot_at}
-use Rattle.qh_record.specs.Record.{Extends}
-use Rattle.qh_record.specs.Moments.{GoesOn}
+use Rattle.qh_slots.specs.Record.{Extends}
+use Rattle.qh_slots.specs.Moments.{GoesOn}
 use Rattle.qh_journal.specs.Calls.{JournalView, IsJournal, Went}
 use Rattle.qh_lease.specs.declared.lease.Lease.{Lease}
 use Rattle.qh_lease.specs.declared.lease.Lease.TheVariants.{Fresh, Out, Returned, Acked}
 use Rattle.qh_lease.specs.Lease.{lease_at, is_acked}
 use Rattle.qh_lease.specs.Tally.{Count}
 use Rattle.qh_range.specs.Results.{RangeResult}
-use Rattle.qh_replay.specs.Noted.{counted, acked_in}
-use Rattle.qh_replay.specs.Replay.{CourseView, is_begun}
-use Rattle.qh_totals.specs.Running.{Running, IsTotalOf, IsNext}
+use Rattle.qh_core.specs.Noted.{counted, acked_in}
+use Rattle.qh_core.specs.Replay.{CourseView, is_begun}
+use Rattle.qh_slots.specs.Running.{Running, IsTotalOf, IsNext}
 use Rattle.qh_board.specs.Board.{BoardView, IsBoard, BeganWith, IsAddable, begun}
 use Rattle.qh_board.specs.Deliveries.{acknowledged, halted, one_ack}
 use Rattle.qh_board.proofs.BoardLemmas.{counted-acked, counted-halted}

@@ -5,12 +5,12 @@ use Rattle.qh_disk.specs.Moments.{Lasts}
 use Rattle.qh_disk.proofs.Moments.{lasts_same, runs_same}
 use Rattle.qh_plan.specs.Jobs.{Job}
 use Rattle.qh_slots.specs.Stands.{Slots, Made}
-use Rattle.qh_record.specs.Moments.{GoesOn}
+use Rattle.qh_slots.specs.Moments.{GoesOn}
 use Rattle.qh_parts.specs.Sparing.{Spares}
 use Rattle.qh_journal.specs.Calls.{Went, Same}
 use Rattle.qh_parts.proofs.PartLemmas.{spares_same}
 use Rattle.qh_journal.proofs.KeptLemmas.{went_same}
-use Rattle.qh_counts.specs.Counts.{Rose}
+use Rattle.qh_limits.specs.Counts.{Rose}
 use Rattle.std.specs.Option.{ForSome, IsSomeAnd}
 use Rattle.qh_board.specs.Board.{Serves}
 use Rattle.qh_board.specs.Deliveries.{DiskRose}

@@ -3,7 +3,7 @@ use Rattle.std.proofs.Common.{◌≡◌, ℕ, Bool, false, ◌+◌, List, length
 use Rattle.std.proofs.lemmas.Bool.{cases_eq, cases_lt, false≢true}
 use Rattle.qh_lease.specs.declared.lease.Lease.{Lease}
 use Rattle.qh_lease.specs.Lease.{may_grant_out, count_out, NonePasses, IsLowest}
-use Rattle.qh_counts.specs.Counts.{Rose, RoseBy}
+use Rattle.qh_limits.specs.Counts.{Rose, RoseBy}
 use Rattle.qh_board.specs.Claims.{IsAnswered, AreNotDue, IsNext}
 
 module _ {T : Type 0} (may_say : T → ℕ → ℕ → Bool → Type 0) (leases : List Lease) where

@@ -9,13 +9,13 @@ use Rattle.std.proofs.lemmas.List.{append_assoc, append-nil, map-append, length-
 use Rattle.qh_plan.specs.declared.verdict.Verdict.{Verdict}
 use Rattle.qh_plan.specs.Jobs.{Job, IsJob, ranges}
 use Rattle.qh_plan.specs.Ranges.{Fits}
-use Rattle.qh_meaning.specs.Values.{range_value}
+use Rattle.qh_plan.specs.Values.{range_value}
 use Rattle.std.specs.Option.{ForSome}
 use Rattle.qh_disk.specs.Disk.{Face, Reads}
 use Rattle.qh_journal.specs.Calls.{JournalView, IsJournal, Went}
 use Rattle.qh_slots.specs.Stands.{Slots, Stands, slot_at, AllFit}
-use Rattle.qh_record.specs.Record.{Extends}
-use Rattle.qh_record.specs.Moments.{GoesOn}
+use Rattle.qh_slots.specs.Record.{Extends}
+use Rattle.qh_slots.specs.Moments.{GoesOn}
 use Rattle.qh_parts.specs.declared.member.Member.{Member}
 use Rattle.qh_parts.specs.Groups.{IsGroup, AreShut, AreValues, StandsPartly, filled, range_of, member_of, unused}
 use Rattle.qh_lease.specs.declared.lease.Lease.{Lease}
@@ -24,9 +24,9 @@ use Rattle.qh_lease.specs.declared.totals.Totals.{Totals}
 use Rattle.qh_lease.specs.Lease.{lease_at, is_acked}
 use Rattle.qh_lease.specs.Tally.{Count}
 use Rattle.qh_range.specs.Results.{RangeResult, IsResult}
-use Rattle.qh_replay.specs.Noted.{counted}
-use Rattle.qh_replay.specs.Replay.{CourseView, is_begun}
-use Rattle.qh_totals.specs.Running.{Running, IsTotalOf, IsNext}
+use Rattle.qh_core.specs.Noted.{counted}
+use Rattle.qh_core.specs.Replay.{CourseView, is_begun}
+use Rattle.qh_slots.specs.Running.{Running, IsTotalOf, IsNext}
 use Rattle.qh_board.specs.declared.picking.Entry.{Entry}
 use Rattle.qh_board.specs.Board.{BoardView, IsBoard, IsAddable, begun}
 use Rattle.qh_board.specs.Deliveries.{acknowledged, one_ack}

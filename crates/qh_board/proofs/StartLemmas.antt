@@ -10,15 +10,15 @@ use Rattle.qh_disk.proofs.Moments.{le_cases}
 use Rattle.qh_plan.specs.declared.verdict.Verdict.{Verdict}
 use Rattle.qh_plan.specs.Jobs.{Job, ranges}
 use Rattle.qh_plan.specs.Ranges.{Fits}
-use Rattle.qh_meaning.specs.Slots.{slot_sums, least_over}
+use Rattle.qh_plan.specs.Slots.{slot_sums, least_over}
 use Rattle.qh_slots.specs.Stands.{Slots, slot_at, nones, AllFit}
 use Rattle.qh_journal.specs.Calls.{JournalView, IsJournal}
 use Rattle.qh_lease.specs.declared.lease.Lease.{Lease}
 use Rattle.qh_lease.specs.declared.lease.Lease.TheVariants.{Fresh, Acked}
 use Rattle.qh_lease.specs.Lease.{lease_at, is_acked}
 use Rattle.qh_lease.specs.Tally.{Count, nothing}
-use Rattle.qh_replay.specs.Replay.{CourseView, is_begun}
-use Rattle.qh_totals.specs.Running.{Running, IsTotalOf, IsNext}
+use Rattle.qh_core.specs.Replay.{CourseView, is_begun}
+use Rattle.qh_slots.specs.Running.{Running, IsTotalOf, IsNext}
 use Rattle.qh_board.specs.Board.{BoardView, IsBoard, begun, lease_for, started}
 
 -- ---- the course

@@ -4,20 +4,20 @@ use Rattle.std.specs.Option.{ForSome}
 use Rattle.std.specs.Borrow.{MutBor}
 use Rattle.qh_plan.specs.declared.verdict.Verdict.{Verdict}
 use Rattle.qh_plan.specs.Jobs.{Job, ranges}
-use Rattle.qh_meaning.specs.Values.{range_value}
+use Rattle.qh_plan.specs.Values.{range_value}
 use Rattle.qh_disk.specs.Disk.{Face, Reads}
 use Rattle.qh_disk.specs.Moments.{Lasts}
 use Rattle.qh_slots.specs.Stands.{Slots, slot_at, Made}
-use Rattle.qh_record.specs.Moments.{GoesOn}
+use Rattle.qh_slots.specs.Moments.{GoesOn}
 use Rattle.qh_parts.specs.Sparing.{Spares}
 use Rattle.qh_journal.specs.Calls.{JournalView, Same}
 use Rattle.qh_lease.specs.declared.lease.Lease.{Lease}
 use Rattle.qh_lease.specs.declared.lease.Lease.TheVariants.{Fresh, Acked}
 use Rattle.qh_lease.specs.Lease.{lease_at, is_acked}
 use Rattle.qh_lease.specs.Tally.{Count}
-use Rattle.qh_replay.specs.Noted.{counted}
-use Rattle.qh_replay.specs.Replay.{CourseView, is_begun}
-use Rattle.qh_totals.specs.Running.{Running, IsTotalOf, CanAdd}
+use Rattle.qh_core.specs.Noted.{counted}
+use Rattle.qh_core.specs.Replay.{CourseView, is_begun}
+use Rattle.qh_slots.specs.Running.{Running, IsTotalOf, CanAdd}
 
 -- A run's job and its journal; the timer that is lent to the board; the leases, with all that was done; the total of the journal's
 -- slots; and what its callers were granted, gave back and were acknowledged.

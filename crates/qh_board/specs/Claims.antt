@@ -1,7 +1,7 @@
 -- What the calls promise that grant ranges and take them back.
 use Rattle.std.specs.Prelude.{◌≡◌, ◌≢◌, ◌⊎◌, ℕ, ◌+◌, ◌<◌, Bool, true, false, List, length, Option, Some, None}
 use Rattle.std.specs.Borrow.{MutBor}
-use Rattle.qh_counts.specs.Counts.{Rose, RoseBy}
+use Rattle.qh_limits.specs.Counts.{Rose, RoseBy}
 use Rattle.qh_lease.specs.declared.lease.Lease.{Lease}
 use Rattle.qh_lease.specs.declared.lease.Lease.TheVariants.{Out, Returned}
 use Rattle.qh_lease.specs.declared.totals.Totals.{Totals}
@@ -14,8 +14,8 @@ use Rattle.qh_range.specs.declared.answers.Admit.{Admit}
 use Rattle.qh_range.specs.declared.answers.Admit.TheVariants.{Granted as Admitted, Taken, Halted as AdmitHalted}
 use Rattle.qh_range.specs.declared.answers.Sweep.{Sweep}
 use Rattle.qh_range.specs.declared.answers.Sweep.TheVariants.{Granted as Swept, Done, Halted as SweepHalted}
-use Rattle.qh_replay.specs.declared.noted.Noted.TheVariants.{Granted as NotedGranted, Back as NotedBack}
-use Rattle.qh_replay.specs.Replay.{CourseView, noted, is_open}
+use Rattle.qh_core.specs.declared.noted.Noted.TheVariants.{Granted as NotedGranted, Back as NotedBack}
+use Rattle.qh_core.specs.Replay.{CourseView, noted, is_open}
 use Rattle.qh_board.specs.Board.{BoardView}
 
 -- ---- the choice of a range

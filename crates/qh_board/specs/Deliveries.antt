@@ -1,7 +1,7 @@
 -- What the calls promise that record results.
 use Rattle.std.specs.Prelude.{◌≡◌, ◌≢◌, ℕ, ◌+◌, true, ◌++◌, ◌∷◌, [], set, Option, Some, None}
 use Rattle.std.specs.Option.{IsSomeAnd}
-use Rattle.qh_counts.specs.Counts.{Rose}
+use Rattle.qh_limits.specs.Counts.{Rose}
 use Rattle.qh_disk.specs.Disk.{Face}
 use Rattle.qh_journal.specs.Calls.{JournalView}
 use Rattle.qh_lease.specs.declared.lease.Lease.TheVariants.{Acked}
@@ -10,9 +10,9 @@ use Rattle.qh_lease.specs.Lease.{lease_at}
 use Rattle.qh_range.specs.Results.{RangeResult}
 use Rattle.qh_range.specs.declared.answers.Delivery.{Delivery}
 use Rattle.qh_range.specs.declared.answers.Delivery.TheVariants.{Acked as Recorded, Repeat, Stranger, Halted, DiskFault}
-use Rattle.qh_replay.specs.declared.noted.Noted.TheVariants.{Acked as NotedAcked, Halted as NotedHalted}
-use Rattle.qh_replay.specs.Replay.{CourseView, noted}
-use Rattle.qh_totals.specs.Running.{IsTotalOf}
+use Rattle.qh_core.specs.declared.noted.Noted.TheVariants.{Acked as NotedAcked, Halted as NotedHalted}
+use Rattle.qh_core.specs.Replay.{CourseView, noted}
+use Rattle.qh_slots.specs.Running.{IsTotalOf}
 use Rattle.qh_board.specs.Board.{BoardView}
 use Rattle.qh_board.specs.Claims.{StaysAsIs}
 

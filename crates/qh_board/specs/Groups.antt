@@ -9,8 +9,8 @@ use Rattle.qh_lease.specs.Lease.{lease_at, is_acked}
 use Rattle.qh_range.specs.Results.{RangeResult}
 use Rattle.qh_range.specs.declared.answers.Delivery.{Delivery}
 use Rattle.qh_range.specs.declared.answers.Delivery.TheVariants.{Acked as Recorded, Repeat, Stranger, Halted, DiskFault}
-use Rattle.qh_replay.specs.Replay.{CourseView}
-use Rattle.qh_totals.specs.Running.{IsTotalOf}
+use Rattle.qh_core.specs.Replay.{CourseView}
+use Rattle.qh_slots.specs.Running.{IsTotalOf}
 use Rattle.qh_board.specs.Board.{BoardView}
 use Rattle.qh_board.specs.Claims.{StaysAsIs}
 use Rattle.qh_board.specs.Deliveries.{acknowledged, Halts}

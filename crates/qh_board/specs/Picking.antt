@@ -3,15 +3,15 @@ use Rattle.std.specs.Prelude.{◌≡◌, ◌≢◌, ℕ, ◌<◌, ◌≤◌, fal
 use Rattle.qh_limits.specs.Limits.{max_grants}
 use Rattle.qh_plan.specs.declared.verdict.Verdict.{Verdict}
 use Rattle.qh_plan.specs.Jobs.{Job, ranges}
-use Rattle.qh_meaning.specs.Values.{range_value}
+use Rattle.qh_plan.specs.Values.{range_value}
 use Rattle.qh_slots.specs.Stands.{Slots, slot_at}
 use Rattle.qh_parts.specs.declared.member.Member.{Member}
 use Rattle.qh_lease.specs.declared.lease.Lease.{Lease}
 use Rattle.qh_lease.specs.declared.lease.Lease.TheVariants.{Acked}
 use Rattle.qh_lease.specs.Lease.{lease_at, is_acked}
 use Rattle.qh_range.specs.Results.{RangeResult}
-use Rattle.qh_replay.specs.Replay.{CourseView}
-use Rattle.qh_totals.specs.Running.{Running, IsTotalOf, IsNext}
+use Rattle.qh_core.specs.Replay.{CourseView}
+use Rattle.qh_slots.specs.Running.{Running, IsTotalOf, IsNext}
 use Rattle.qh_board.specs.declared.picking.Entry.{Entry}
 use Rattle.qh_board.specs.Deliveries.{acknowledged}
 

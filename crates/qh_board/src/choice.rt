@@ -3,8 +3,8 @@ ghost use Rattle.std.specs.Prelude.{◌≡◌, ◌<◌, length, true, IfSome, If
 ghost use Rattle.qh_lease.specs.Lease.{lease_at, grants_of, may_grant_out, may_grant_returned, is_fresh, NonePasses};
 ghost use Rattle.qh_board.specs.Claims.{IsNext, IsLate, IsDrained};
 
+use qh_core::Course;
 use qh_lease::{Lease, Timer};
-use qh_replay::Course;
 
 /// The number of the last grant of a lease, 0 where it has none.
 fn attempt_of(lease: Lease) -> u32

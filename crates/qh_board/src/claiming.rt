@@ -1,19 +1,19 @@
 //! Ranges that are granted, and given back.
 ghost use Rattle.std.specs.Prelude.{◌≡◌, ◌↔◌, ◌<◌, ◌^◌, ◌+◌, ℕ, IsTrue, None, length};
 ghost use Rattle.std.specs.Bool.{OnTrue, OnFalse};
-ghost use Rattle.qh_counts.specs.Counts.{Rose};
+ghost use Rattle.qh_limits.specs.Counts.{Rose};
 ghost use Rattle.qh_plan.specs.Jobs.{ranges};
 ghost use Rattle.qh_lease.specs.Lease.{lease_at, may_grant, grants_of};
-ghost use Rattle.qh_replay.specs.Replay.{is_begun};
+ghost use Rattle.qh_core.specs.Replay.{is_begun};
 ghost use Rattle.qh_board.specs.Board.{begun};
 ghost use Rattle.qh_board.specs.Claims.{granted, one_grant, given_back, one_back, ClaimComes, ClaimDoes, AdmitComes, AdmitDoes, AdmitTells, StaysAsIs, TakesBack, SweepIs};
 
 use crate::board::{Board, MOST_ENTRIES};
 use crate::choice::next;
+use qh_core::Course;
 use qh_disk::Disk;
 use qh_lease::{Lease, Ledgers, Share, Tally, Timer};
 use qh_range::{Admit, Claim, Sweep, Ticket};
-use qh_replay::Course;
 
 /// Grants a range, tells the timer and counts it.
 fn grant<T: Timer, N: Ledgers>(

@@ -3,8 +3,8 @@ ghost use Rattle.std.specs.Prelude.{◌≡◌, ◌≢◌, ◌≤◌, ◌+◌, �
 ghost use Rattle.qh_lease.specs.Lease.{lease_at};
 ghost use Rattle.qh_journal.specs.Calls.{Went};
 ghost use Rattle.qh_board.specs.Board.{begun, Serves};
-ghost use Rattle.qh_replay.specs.Replay.{is_begun};
-ghost use Rattle.qh_totals.specs.Running.{IsTotalOf};
+ghost use Rattle.qh_core.specs.Replay.{is_begun};
+ghost use Rattle.qh_slots.specs.Running.{IsTotalOf};
 ghost use Rattle.qh_board.specs.Groups.{GroupComes, GroupDoes, more_acks};
 ghost use Rattle.qh_board.specs.Picking.{AreWaiting, IsBehind, all_noted};
 ghost use Rattle.qh_board.specs.Deliveries.{DeliveryComes, DeliveryDoes};
@@ -13,14 +13,13 @@ use crate::board::{Board, MOST_ENTRIES};
 use crate::group::Group;
 use crate::picking::{Entry, pick};
 use crate::start::add_slot;
+use qh_core::Course;
 use qh_disk::Disk;
 use qh_journal::Journal;
 use qh_lease::{Lease, Ledgers, Share, Tally, Timer};
-use qh_meaning::range_value_fits;
-use qh_plan::Job;
+use qh_plan::{Job, range_value_fits};
 use qh_range::{Delivery, RangeResult};
-use qh_replay::Course;
-use qh_totals::RunningTotal;
+use qh_slots::RunningTotal;
 
 /// Acknowledges the ranges of some entries in turn, whose verdicts stand in the journal, and adds these verdicts to the total.
 fn acknowledge_all<D: Disk, N: Ledgers>(

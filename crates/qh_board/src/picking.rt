@@ -9,11 +9,11 @@ ghost use Rattle.qh_board.specs.Picking.{member_for, entry_for, TakeTurns};
 
 use crate::group::{GROUP_RESULTS, Group};
 use arrayvec::ArrayVec;
+use qh_core::Course;
 use qh_lease::Lease;
 use qh_parts::Member;
 use qh_plan::Job;
 use qh_range::RangeResult;
-use qh_replay::Course;
 
 /// The range and the attempt of a result. The default stands in the unused places of a list.
 #[derive(Clone, Copy, Default)]

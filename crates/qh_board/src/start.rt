@@ -3,14 +3,14 @@ ghost use Rattle.std.specs.Prelude.{◌≡◌, Some, IfOk, set};
 ghost use Rattle.qh_plan.specs.declared.verdict.Verdict.{Verdict as VerdictValue};
 ghost use Rattle.qh_slots.specs.Stands.{Slots, slot_at};
 ghost use Rattle.qh_journal.specs.Calls.{IsJournal};
-ghost use Rattle.qh_totals.specs.Running.{IsTotalOf, IsNext};
+ghost use Rattle.qh_slots.specs.Running.{IsTotalOf, IsNext};
 ghost use Rattle.qh_board.specs.Board.{started, IsAddable};
 
+use qh_core::Course;
 use qh_disk::Disk;
 use qh_journal::Journal;
 use qh_plan::Job;
-use qh_replay::Course;
-use qh_totals::RunningTotal;
+use qh_slots::RunningTotal;
 use std::alloc::{AllocError, Global};
 
 /// The course of a run that finds this journal: each range with a slot is acknowledged, the others are fresh.

@@ -4,7 +4,7 @@ use Rattle.std.specs.Prelude.{◌==◌}
 use Rattle.std.specs.Option.{is_none, unwrap_or}
 use Rattle.std.proofs.lemmas.Bool.{cond-true, cond-false, not_from_true, not_from_false, and_left, lt-ltb, le-ltb, ne_eqb}
 use Rattle.std.proofs.lemmas.List.{get_or-drop}
-use Rattle.qh_decimal.specs.Decimal.{value_of}
+use Rattle.qh_text.specs.Decimal.{value_of}
 use Rattle.qh_gates.specs.declared.kind.Kind.{Kind}
 use Rattle.qh_gates.specs.declared.kind.Kind.TheVariants.{H}
 use Rattle.qh_gates.specs.declared.gate.Gate.{Gate}

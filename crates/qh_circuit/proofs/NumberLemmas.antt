@@ -2,7 +2,7 @@
 use Rattle.std.proofs.Common.{◌≡◌, ℕ, ◌<◌, Bool, true, false, ◌&&◌, cond, nat_lt, List, Some, None, refl, sym, ◌∙◌}
 use Rattle.std.specs.Option.{is_some}
 use Rattle.std.proofs.lemmas.Bool.{and_parts, ltb-true}
-use Rattle.qh_decimal.specs.Decimal.{is_decimal, value_of}
+use Rattle.qh_text.specs.Decimal.{is_decimal, value_of}
 use Rattle.qh_circuit.specs.GateLines.{is_number_below}
 
 told : {X : Type 0} (b : Bool) (x : X) → is_some (cond b (Some x) None) ≡ b

@@ -6,10 +6,10 @@ use Rattle.std.proofs.lemmas.Bool.{cases_eq, and_from, and_left, and_right, le-l
 use Rattle.std.proofs.lemmas.List.{get_or_append_left, get_or_at, length-append}
 use Rattle.std.proofs.lemmas.List.Elements.{All-tail, All-head}
 use Rattle.std.proofs.lemmas.List.Folds.{list_any_none}
-use Rattle.qh_decimal.specs.Decimal.{value_of}
-use Rattle.qh_lines.specs.Lines.{content_from, content_of}
-use Rattle.qh_lines.specs.Words.{words_of}
-use Rattle.qh_lines.proofs.LineLemmas.{lines_of-nil, content_from-nil, content_from-line}
+use Rattle.qh_text.specs.Decimal.{value_of}
+use Rattle.qh_text.specs.Lines.{content_from, content_of}
+use Rattle.qh_text.specs.LineWords.{words_of}
+use Rattle.qh_text.proofs.LineLemmas.{lines_of-nil, content_from-nil, content_from-line}
 use Rattle.qh_gates.specs.declared.gate.Gate.{Gate}
 use Rattle.qh_gates.specs.Circuits.{Circuit, Fits, InOrder, IsCircuit}
 use Rattle.qh_circuit.specs.GateLines.{word, gate_of, kept, overlaps}

@@ -3,9 +3,9 @@ use Rattle.std.proofs.Common.{◌≡◌, ℕ, Bool, true, false, cond, List, [],
 use Rattle.std.specs.Option.{option_or}
 use Rattle.std.proofs.lemmas.List.Elements.{filter-append}
 use Rattle.std.specs.Prelude.{nat_le}
-use Rattle.qh_decimal.specs.Decimal.{value_of}
-use Rattle.qh_lines.specs.Lines.{content_of}
-use Rattle.qh_lines.specs.Words.{words_of}
+use Rattle.qh_text.specs.Decimal.{value_of}
+use Rattle.qh_text.specs.Lines.{content_of}
+use Rattle.qh_text.specs.LineWords.{words_of}
 use Rattle.qh_gates.specs.declared.gate.Gate.{Gate}
 use Rattle.qh_gates.specs.Circuits.{Circuit}
 use Rattle.qh_circuit.specs.declared.latest.Latest.{Latest}

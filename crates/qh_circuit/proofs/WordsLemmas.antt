@@ -5,10 +5,10 @@ use Rattle.std.proofs.lemmas.Bool.{and_from, and_left, and_right, lt-ltb, ne_eqb
 use Rattle.std.proofs.lemmas.List.{get_or-drop, nil_from_length}
 use Rattle.std.proofs.lemmas.List.Elements.{All-nil, All-push, All-append, All-cons}
 use Rattle.std.proofs.lemmas.Fmt.{decimal_by_steps, decimal_is_IsNumeral, decimal_nonempty}
-use Rattle.qh_decimal.specs.Decimal.{value_of, is_decimal}
-use Rattle.qh_decimal.proofs.Digits.{is_decimal_from}
-use Rattle.qh_lines.specs.Words.{is_space, is_blank_or_comment, is_passed_over, words_of}
-use Rattle.qh_lines.proofs.WordLemmas.{words_of-one, words_of-before}
+use Rattle.qh_text.specs.Decimal.{value_of, is_decimal}
+use Rattle.qh_text.proofs.Digits.{is_decimal_from}
+use Rattle.qh_text.specs.LineWords.{is_space, is_blank_or_comment, is_passed_over, words_of}
+use Rattle.qh_text.proofs.WordLemmas.{words_of-one, words_of-before}
 use Rattle.qh_gates.specs.declared.kind.Kind.{Kind}
 use Rattle.qh_gates.specs.declared.gate.Gate.{Gate}
 use Rattle.qh_gates.specs.Tables.{name_text, qubits_of}

@@ -2,7 +2,7 @@
 use Rattle.std.specs.Prelude.{ℕ, ◌+◌, ◌^◌, ◌==◌, ◌&&◌, Bool, not, List, [], ◌∷◌, length, nat_lt, nat_le, Option, Some, None, is_none, if◌then◌else◌}
 use Rattle.std.specs.List.{list_any}
 use Rattle.qh_limits.specs.Limits.{max_qubits, max_gates}
-use Rattle.qh_decimal.specs.Decimal.{value_of}
+use Rattle.qh_text.specs.Decimal.{value_of}
 use Rattle.qh_gates.specs.declared.gate.Gate.{Gate}
 use Rattle.qh_gates.specs.Tables.{qubits_of}
 use Rattle.qh_circuit.specs.declared.fault.Why.{Why}

@@ -1,6 +1,6 @@
 -- The words of a line, and the gate that a gate line spells: its time, its name and its qubits.
 use Rattle.std.specs.Prelude.{ℕ, ◌+◌, ◌==◌, ◌&&◌, ◌||◌, Bool, List, [], slice_index_or, fold, filter, nat_le, is_some, unwrap_or}
-use Rattle.qh_decimal.specs.Decimal.{number_below, value_of}
+use Rattle.qh_text.specs.Decimal.{number_below, value_of}
 use Rattle.qh_gates.specs.declared.kind.Kind.{Kind}
 use Rattle.qh_gates.specs.declared.kind.Kind.TheVariants.{H}
 use Rattle.qh_gates.specs.declared.gate.Gate.{Gate}

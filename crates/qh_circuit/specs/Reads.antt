@@ -1,6 +1,6 @@
 -- What stands at the front of the words of a line.
 use Rattle.std.specs.Prelude.{◌≡◌, ℕ, ◌+◌, ◌-◌, ◌<◌, ◌&&◌, Bool, true, List, ◌∷◌, length, Some}
-use Rattle.qh_decimal.specs.Decimal.{value_of}
+use Rattle.qh_text.specs.Decimal.{value_of}
 use Rattle.qh_gates.specs.declared.kind.Kind.{Kind}
 use Rattle.qh_gates.specs.Names.{kind_named}
 use Rattle.qh_circuit.specs.GateLines.{word, is_number_below}

@@ -1,9 +1,9 @@
 -- What a circuit text means: its circuit, or its first faulty line with that line's first fault.
 use Rattle.std.specs.Prelude.{ℕ, List, [], ◌∷◌, ◌++◌, map, Option, Result, Ok, Err}
 use Rattle.std.specs.Option.{option_map, option_to_list}
-use Rattle.qh_decimal.specs.Decimal.{value_of}
-use Rattle.qh_lines.specs.Lines.{content_of}
-use Rattle.qh_lines.specs.Words.{words_of}
+use Rattle.qh_text.specs.Decimal.{value_of}
+use Rattle.qh_text.specs.Lines.{content_of}
+use Rattle.qh_text.specs.LineWords.{words_of}
 use Rattle.qh_gates.specs.declared.gate.Gate.{Gate}
 use Rattle.qh_gates.specs.Circuits.{Circuit}
 use Rattle.qh_circuit.specs.declared.fault.Why.{Why}

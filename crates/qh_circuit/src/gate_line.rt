@@ -1,7 +1,7 @@
 //! The words of a line, read one after the other.
 
 ghost use Rattle.std.specs.Prelude.{◌≡◌, ◌==◌, ◌&&◌, ◌^◌, ◌≤◌, false, length, IfOk, MatchOption, MatchResult, None, Some};
-ghost use Rattle.qh_lines.specs.Words.{words_of};
+ghost use Rattle.qh_text.specs.LineWords.{words_of};
 ghost use Rattle.qh_gates.specs.Tables.{qubits_of};
 ghost use Rattle.qh_gates.specs.Circuits.{Fits};
 ghost use Rattle.qh_gates.specs.Names.{kind_named};
@@ -10,9 +10,8 @@ ghost use Rattle.qh_circuit.specs.Faults.{first_fault, gate_faults};
 ghost use Rattle.qh_circuit.specs.Reads.{BeginsWithKind, BeginsWithNumber, BeginsWithQubits, have_qubits};
 
 use crate::fault::Why;
-use qh_decimal::number_of;
 use qh_gates::{Gate, Kind, arity, kind_of};
-use qh_lines::next_word;
+use qh_text::{next_word, number_of};
 
 /// The number that the next word spells, and what stands behind it.
 pub fn next_number(line: &[u8]) -> Option<(u32, &[u8])>

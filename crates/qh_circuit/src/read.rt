@@ -2,8 +2,8 @@
 
 ghost use Rattle.std.specs.Prelude.{◌≡◌, ◌^◌, ◌<◌, ◌≤◌, ◌&&◌, not, ◌++◌, ◌∷◌, [], List, length, map, nat_le, IfOk, IfErr, OnOk, OnErr, MatchResult, Ok, Some, None};
 ghost use Rattle.qh_limits.specs.Limits.{max_qubits};
-ghost use Rattle.qh_decimal.specs.Decimal.{value_of};
-ghost use Rattle.qh_lines.specs.Words.{words_of};
+ghost use Rattle.qh_text.specs.Decimal.{value_of};
+ghost use Rattle.qh_text.specs.LineWords.{words_of};
 ghost use Rattle.qh_gates.specs.declared.gate.Gate.{Gate as GateValue};
 ghost use Rattle.qh_gates.specs.Circuits.{Fits, IsGate};
 ghost use Rattle.qh_gates.specs.Faults.{IsAccepted};
@@ -18,7 +18,7 @@ use crate::gate_line::{gate_in, next_number};
 use crate::latest::Latest;
 use qh_gates::{Circuit, Gate};
 use qh_limits::{MAX_GATES, MAX_QUBITS};
-use qh_lines::{ContentLines, next_word};
+use qh_text::{ContentLines, next_word};
 use std::alloc::{AllocError, Global};
 
 /// The circuit that a text spells, with its gates up to the greatest time. Gates of a later time are checked as the

@@ -3,3 +3,11 @@ pub mod LeaseLaw
 pub mod Once
 pub mod Replaced
 pub mod Steps
+pub mod BegunLemmas
+pub mod CountLemmas
+pub mod CourseLemmas
+pub mod HeldLemmas
+pub mod MoveLemmas
+pub mod OnceLemmas
+pub mod OpeningLemmas
+pub mod ReplayLemmas

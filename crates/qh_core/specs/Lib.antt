@@ -1,2 +1,5 @@
 pub mod Law
 pub mod Machine
+pub mod Course
+pub mod Noted
+pub mod Replay

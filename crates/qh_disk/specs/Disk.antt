@@ -2,7 +2,7 @@
 use Rattle.std.specs.Prelude.{◌<◌, ◌≡◌, ℕ, ◌+◌, ◌-◌, ◌≤◌, min, max, List, ◌++◌, length, take, drop, true, replicate, Option, Some, option_map, Result, IfErr, OnErr}
 use Rattle.std.specs.Option.{is_some}
 use Rattle.std.proofs.Common.{get_or}
-use Rattle.qh_counts.specs.Counts.{Rose}
+use Rattle.qh_limits.specs.Counts.{Rose}
 use Rattle.qh_disk.specs.declared.failed.Failed.{Failed}
 
 -- f with these bytes at this offset

@@ -2,7 +2,7 @@
 use Rattle.std.specs.Prelude.{◌≡◌, ◌⊎◌, ℕ, ◌≤◌, List, [], ◌∷◌, ◌++◌, length, take, replicate, Option, Some, None, Result, OnErr, IsErr, refl}
 use Rattle.std.proofs.Common.{get_or, arith, ap}
 use Rattle.std.proofs.lemmas.List.{places, take_all}
-use Rattle.qh_counts.specs.Counts.{raised}
+use Rattle.qh_limits.specs.Counts.{raised}
 use Rattle.qh_disk.specs.Disk.{Face, overwritten, resized, Torn, Stretched}
 use Rattle.qh_disk.specs.Plan.{CallPlan, counted}
 use Rattle.qh_disk.specs.declared.failed.Failed.{Failed}

@@ -2,7 +2,7 @@
 use Rattle.std.specs.Prelude.{◌<◌, ◌⊎◌, ℕ, List, [], ◌∷◌, Option, Some, None}
 use Rattle.std.specs.List.{Contains}
 use Rattle.std.specs.Option.{IsSomeAnd}
-use Rattle.qh_counts.specs.Counts.{raised}
+use Rattle.qh_limits.specs.Counts.{raised}
 
 -- how many calls there were, the numbers of those that fail, and the last that may succeed
 pub record CallPlan : Type 0 where

@@ -3,12 +3,12 @@ ghost use Rattle.std.specs.Prelude.{◌≡◌, ◌≤◌, ◌+◌, ◌↔◌, []
 ghost use Rattle.std.specs.Option.{is_some, option_map};
 ghost use Rattle.std.specs.String.{string_bytes};
 ghost use Rattle.std.proofs.Common.{rules};
-ghost use Rattle.qh_counts.specs.Counts.{raised};
+ghost use Rattle.qh_limits.specs.Counts.{raised};
 ghost use Rattle.qh_disk.specs.Disk.{Reads, Becomes, overwritten, resized, Torn, Stretched, Calls, Unchanged, Shrinks, Turns, IsSafe};
 ghost use Rattle.qh_disk.specs.File.{face_of};
 
 use crate::{Disk, Failed};
-use qh_counts::raise;
+use qh_limits::raise;
 use std::fs::{File, OpenOptions};
 use std::io;
 use std::marker::Model;

@@ -2,7 +2,7 @@
 ghost use Rattle.std.specs.Prelude.{◌≡◌, ◌<◌, ◌≤◌, ◌+◌, ◌⊎◌, ◌↔◌, [], ◌∷◌, length, take, drop, vec_len, map, reverse, Some, IfOk, OnOk, OnErr, IsErr};
 ghost use Rattle.std.specs.List.{All};
 ghost use Rattle.std.specs.Vec.{vec_capacity};
-ghost use Rattle.qh_counts.specs.Counts.{raised};
+ghost use Rattle.qh_limits.specs.Counts.{raised};
 ghost use Rattle.qh_disk.specs.Disk.{Becomes, overwritten, resized, IsImage, Reads, Torn, Stretched, Calls, Unchanged, Shrinks, Turns, IsSafe};
 ghost use Rattle.qh_disk.specs.Moments.{Runs};
 ghost use Rattle.qh_disk.specs.Plan.{IsPlanned, listed};
@@ -13,7 +13,7 @@ use crate::bytes::{copy, place, resize, with_room};
 use crate::change::{Change, make_place, note, remake};
 use crate::plan::Plan;
 use crate::{Disk, Failed, Pick};
-use qh_counts::raise;
+use qh_limits::raise;
 use std::alloc::{AllocError, Global};
 use std::marker::Model;
 

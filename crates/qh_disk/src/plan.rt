@@ -2,7 +2,7 @@
 ghost use Rattle.std.specs.Prelude.{◌≡◌, ◌≤◌, ◌↔◌, IsTrue, IfOk};
 ghost use Rattle.qh_disk.specs.Plan.{counted, IsPlanned, listed};
 
-use qh_counts::raise;
+use qh_limits::raise;
 use std::alloc::{AllocError, Global};
 use std::marker::Model;
 

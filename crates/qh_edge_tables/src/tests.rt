@@ -1,4 +1,5 @@
 //! One file for each crate below.
 
 mod io;
+mod saying;
 mod words;

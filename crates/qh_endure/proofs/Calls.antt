@@ -4,7 +4,7 @@ use Rattle.std.specs.declared.option.Option.{Option}
 use Rattle.std.specs.Prelude.{nat_eq}
 use Rattle.std.specs.Bool.{MatchBool}
 use Rattle.std.proofs.lemmas.Bool.{false≢true}
-use Rattle.qh_counts.specs.Counts.{Rose}
+use Rattle.qh_limits.specs.Counts.{Rose}
 use Rattle.qh_gates.specs.Circuits.{Circuit}
 use Rattle.qh_plan.specs.Jobs.{Job}
 use Rattle.qh_io.specs.Memory.{Tray}
@@ -16,23 +16,23 @@ use Rattle.qh_slots.specs.Stands.{Made}
 use Rattle.qh_slots.specs.Attaching.{first_refusal, head_refusal}
 use Rattle.qh_slots.specs.declared.fault.AttachFault.{AttachFault}
 use Rattle.qh_slots.specs.declared.fault.AttachFault.TheVariants.{Empty}
-use Rattle.qh_record.specs.Moments.{IsMade, BeginsTrue, IsUnwritten}
+use Rattle.qh_slots.specs.Moments.{IsMade, BeginsTrue, IsUnwritten}
 use Rattle.qh_words.specs.declared.options.Options.{Options}
 use Rattle.qh_words.specs.declared.size.GenSize.{GenSize}
-use Rattle.qh_tell.specs.Seen.{Seen}
+use Rattle.qh_request.specs.Seen.{Seen}
 use Rattle.qh_request.specs.Inputs.{IsCircuitFile, IsBitsFile, IsInput, HasInput}
 use Rattle.qh_request.specs.Jobs.{Asks, Takes, keeping, job_strings}
 use Rattle.qh_request.specs.Refusals.{RefusesBy, Refuses, Reading, JournalRefuses}
 use Rattle.qh_request.specs.Request.{RunIsWhole, EndsWhole, PrintsAsked}
-use Rattle.qh_tell.specs.Stops.{status_of}
+use Rattle.qh_request.specs.Stops.{status_of}
 use Rattle.qh_request.specs.Outcomes.{MayStopBy, MayStop, Stops}
-use Rattle.qh_tell.specs.declared.stop.Refusal.{Refusal}
-use Rattle.qh_tell.specs.declared.stop.Refusal.TheVariants.{CircuitTooLong, CircuitLine, BitsTooLong, BitsLine, Plan, ProbTooDeep, NoCut}
-use Rattle.qh_tell.specs.declared.stop.Input.TheVariants.{OfCircuit, OfBits}
-use Rattle.qh_tell.specs.declared.stop.JournalRefusal.{JournalRefusal}
-use Rattle.qh_tell.specs.declared.stop.JournalRefusal.TheVariants.{OfJournal, OfOld}
-use Rattle.qh_tell.specs.declared.stop.Stop.{Stop}
-use Rattle.qh_tell.specs.declared.stop.Stop.TheVariants.{Usage, Refused, OverflowGate, OverflowPath, ReadFault, DiskFault, WriteFault, Memory, Journal}
+use Rattle.qh_request.specs.declared.stop.Refusal.{Refusal}
+use Rattle.qh_request.specs.declared.stop.Refusal.TheVariants.{CircuitTooLong, CircuitLine, BitsTooLong, BitsLine, Plan, ProbTooDeep, NoCut}
+use Rattle.qh_request.specs.declared.stop.Input.TheVariants.{OfCircuit, OfBits}
+use Rattle.qh_request.specs.declared.stop.JournalRefusal.{JournalRefusal}
+use Rattle.qh_request.specs.declared.stop.JournalRefusal.TheVariants.{OfJournal, OfOld}
+use Rattle.qh_request.specs.declared.stop.Stop.{Stop}
+use Rattle.qh_request.specs.declared.stop.Stop.TheVariants.{Usage, Refused, OverflowGate, OverflowPath, ReadFault, DiskFault, WriteFault, Memory, Journal}
 use Rattle.qh_endure.specs.Outcomes.{KeepsOwnJournal, IsMadeNow, EndsWithAnswer, IsRefused, IsOver, RefusesFile, Ends}
 
 -- a source that never fails, which told a text and has this left

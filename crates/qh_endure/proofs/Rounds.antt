@@ -1,7 +1,7 @@
 -- What several calls come to, one after the other, and crashes between them.
 use Rattle.std.proofs.Common.{◌≡◌, ◌≢◌, ℕ, ◌+◌, ◌≤◌, ◌⊎◌, inl, inr, List, [], Some, None, Ok, Err, IfOk, Result, refl, sym, ap, subst, ◌∙◌, arith, get_or}
 use Rattle.std.specs.declared.option.Option.{Option}
-use Rattle.qh_counts.specs.Counts.{Rose}
+use Rattle.qh_limits.specs.Counts.{Rose}
 use Rattle.qh_plan.specs.Jobs.{Job}
 use Rattle.qh_io.specs.Memory.{Tray}
 use Rattle.qh_disk.specs.Disk.{Face, IsImage, IsSafe}
@@ -11,7 +11,7 @@ use Rattle.qh_disk.specs.Plan.{CallPlan}
 use Rattle.qh_disk.proofs.Moments.{runs_same, runs_on, each_since_same, each_since_step, each_since_on, crash_keeps}
 use Rattle.qh_slots.specs.Layout.{mark}
 use Rattle.qh_slots.specs.Stands.{Made}
-use Rattle.qh_record.specs.Moments.{IsEmptyAt}
+use Rattle.qh_slots.specs.Moments.{IsEmptyAt}
 use Rattle.qh_words.specs.declared.options.Options.{Options}
 use Rattle.qh_request.specs.Jobs.{Asks}
 use Rattle.qh_endure.specs.Outcomes.{IsMadeSince, IsMadeNow, Proceeds, Ends}

@@ -1,9 +1,9 @@
 -- What runs over a journal in memory come to.
 use Rattle.std.specs.Prelude.{◌≡◌, ◌≢◌, ◌⊎◌, ℕ, ◌≤◌, List, ◌++◌, false, Option, Some, None, IsSome, IsSomeAnd}
-use Rattle.qh_counts.specs.Counts.{Rose}
+use Rattle.qh_limits.specs.Counts.{Rose}
 use Rattle.qh_plan.specs.Jobs.{Job}
 use Rattle.qh_plan.specs.declared.verdict.Verdict.TheVariants.{Over}
-use Rattle.qh_meaning.specs.Values.{run_value}
+use Rattle.qh_plan.specs.Values.{run_value}
 use Rattle.qh_io.specs.Memory.{Tray}
 use Rattle.qh_disk.specs.Disk.{Face}
 use Rattle.qh_disk.specs.History.{History, content_of, face_of}
@@ -16,7 +16,7 @@ use Rattle.qh_words.specs.declared.options.Options.{Options}
 use Rattle.qh_request.specs.Jobs.{Asks, job_strings}
 use Rattle.qh_request.specs.Answer.{IsJobText}
 use Rattle.qh_request.specs.Refusals.{Refuses}
-use Rattle.qh_tell.specs.declared.stop.Refusal.{Refusal}
+use Rattle.qh_request.specs.declared.stop.Refusal.{Refusal}
 
 -- the circuit is cut, and a journal is kept that takes over no old one
 pub record KeepsOwnJournal (o : Options) : Type 0 where

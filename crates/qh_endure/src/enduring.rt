@@ -1,10 +1,10 @@
 //! Runs one after the other, with a crash between two.
 ghost use Rattle.std.specs.Prelude.{◌≡◌, ◌≢◌, ◌<◌, ◌⊎◌, length, None, Ok, IfOk};
 ghost use Rattle.std.specs.Option.{ForSome};
-ghost use Rattle.qh_counts.specs.Counts.{Rose};
+ghost use Rattle.qh_limits.specs.Counts.{Rose};
 ghost use Rattle.qh_disk.specs.History.{face_of, content_of};
 ghost use Rattle.qh_disk.specs.Moments.{Runs};
-ghost use Rattle.qh_record.specs.Moments.{IsEmptyAt};
+ghost use Rattle.qh_slots.specs.Moments.{IsEmptyAt};
 ghost use Rattle.qh_request.specs.Jobs.{request};
 ghost use Rattle.qh_endure.specs.Outcomes.{KeepsOwnJournal, IsMadeSince, IsMadeNow, EndsWithAnswer, IsRefused, IsOver, RefusesFile, Proceeds, Ends};
 

@@ -7,10 +7,10 @@ use Rattle.qh_ring.specs.declared.number.Omega.{Omega}
 use Rattle.std.proofs.lemmas.List.{length-map, length-drop, take_all, take_rest}
 use Rattle.qh_ring.specs.Numbers.{IsWithin, times_root}
 use Rattle.qh_ring.specs.States.{applied_list}
-use Rattle.qh_tiles.specs.declared.turn.Turn.{Turn}
-use Rattle.qh_tiles.specs.Turns.{matrix_in, qubits_in, turned, after_turns, StayWithin}
-use Rattle.qh_tiles.proofs.StayLemmas.{stay_last}
-use Rattle.qh_tiles.proofs.RunLemmas.{length_after}
+use Rattle.qh_passes.specs.declared.turn.Turn.{Turn}
+use Rattle.qh_passes.specs.Turns.{matrix_in, qubits_in, turned, after_turns, StayWithin}
+use Rattle.qh_passes.proofs.StayLemmas.{stay_last}
+use Rattle.qh_passes.proofs.RunLemmas.{length_after}
 use Rattle.qh_narrow.specs.Factor.{with_factor}
 use Rattle.qh_half.specs.declared.form.Form.{Form}
 use Rattle.qh_half.specs.declared.places.Places.{Places}

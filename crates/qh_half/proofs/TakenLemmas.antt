@@ -2,8 +2,8 @@
 use Rattle.std.proofs.Common.{◌≡◌, ℕ, ◌+◌, ◌/◌, ◌≤◌, List, arith, sym, ap, subst, ◌∙◌}
 use Rattle.std.specs.Prelude.{Option, Some}
 use Rattle.qh_ring.specs.declared.number.Omega.{Omega}
-use Rattle.qh_tiles.specs.declared.turn.Turn.{Turn}
-use Rattle.qh_tiles.specs.Turns.{after_turns, StayWithin}
+use Rattle.qh_passes.specs.declared.turn.Turn.{Turn}
+use Rattle.qh_passes.specs.Turns.{after_turns, StayWithin}
 use Rattle.qh_narrow.specs.Columns.{Columns}
 use Rattle.qh_narrow.specs.Factor.{with_factor}
 use Rattle.qh_half.specs.declared.form.Form.{Form}

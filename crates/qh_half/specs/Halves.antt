@@ -4,8 +4,8 @@ use Rattle.qh_limits.specs.Limits.{coefficient_bits, max_part_qubits}
 use Rattle.qh_ring.specs.declared.number.Omega.{Omega}
 use Rattle.qh_ring.specs.Numbers.{IsWithin}
 use Rattle.qh_ring.specs.States.{applied_list}
-use Rattle.qh_tiles.specs.declared.turn.Turn.{Turn}
-use Rattle.qh_tiles.specs.Turns.{matrix_in, qubits_in}
+use Rattle.qh_passes.specs.declared.turn.Turn.{Turn}
+use Rattle.qh_passes.specs.Turns.{matrix_in, qubits_in}
 
 pub record Half : Type 0 where
   pub qubits : ℕ

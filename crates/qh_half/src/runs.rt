@@ -1,13 +1,13 @@
 //! What a run of turns makes of the numbers of a half.
 ghost use Rattle.std.specs.Prelude.{◌≡◌, ◌<◌, ◌≤◌, length, take, All};
-ghost use Rattle.qh_tiles.specs.Turns.{matrix_in, qubits_in, IsTurnIn};
+ghost use Rattle.qh_passes.specs.Turns.{matrix_in, qubits_in, IsTurnIn};
 ghost use Rattle.qh_half.specs.Halves.{AfterMatrix, AfterTurns};
 ghost use Rattle.qh_half.specs.Forms.{held, IsKept};
 
 use crate::form::Form;
 use crate::places::Places;
 use crate::turns::{turn1, turn2};
-use qh_tiles::Turn;
+use qh_passes::Turn;
 
 /// Lets the lanes in use take first turns of the run, tile by tile, and tells how many they took. The form stays.
 fn take_turns(form: Form, places: &mut Places, qubits: u32, run: &[Turn]) -> usize

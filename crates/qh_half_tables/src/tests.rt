@@ -4,4 +4,5 @@ mod columns;
 mod drawn;
 mod limits;
 mod runs;
+mod steps;
 mod turns;

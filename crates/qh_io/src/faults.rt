@@ -1,9 +1,9 @@
 //! What a refused call answers.
 ghost use Rattle.std.specs.Prelude.{◌≡◌, ◌≤◌, ◌↔◌, IsTrue};
 ghost use Rattle.std.specs.List.{Contains};
-ghost use Rattle.qh_counts.specs.Counts.{raised};
+ghost use Rattle.qh_limits.specs.Counts.{raised};
 
-use qh_counts::raise;
+use qh_limits::raise;
 
 /// A call on a source or a sink failed, and its count of faults rose.
 #[derive(Clone, Copy, PartialEq, Eq, Debug)]

@@ -4,7 +4,7 @@ ghost use Rattle.std.specs.Option.{option_map};
 ghost use Rattle.std.specs.String.{string_bytes};
 ghost use Rattle.std.specs.Io.{WritesAtMost};
 ghost use Rattle.std.specs.Io.KnownBytes.{WriteAppends};
-ghost use Rattle.qh_counts.specs.Counts.{raised};
+ghost use Rattle.qh_limits.specs.Counts.{raised};
 ghost use Rattle.qh_io.specs.Causes.{HasCause};
 ghost use Rattle.qh_io.specs.Edge.{Goes, Takes};
 

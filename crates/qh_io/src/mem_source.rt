@@ -3,7 +3,7 @@ ghost use Rattle.std.specs.Prelude.{◌≡◌, ◌≤◌, ◌<◌, ◌+◌, ◌�
 ghost use Rattle.std.specs.Io.{ReadsAtMost};
 ghost use Rattle.std.specs.Io.KnownBytes.{ReadConsumes};
 ghost use Rattle.std.specs.List.{Contains};
-ghost use Rattle.qh_counts.specs.Counts.{raised};
+ghost use Rattle.qh_limits.specs.Counts.{raised};
 ghost use Rattle.qh_io.specs.Causes.{HasCause};
 
 use crate::faults::{Failed, failure, is_to_fail};

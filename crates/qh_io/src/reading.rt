@@ -3,7 +3,7 @@ ghost use Rattle.std.specs.Prelude.{◌≡◌, ◌≤◌, ◌<◌, ◌↔◌, �
 ghost use Rattle.std.specs.Io.{ReadsAtMost};
 ghost use Rattle.std.specs.Io.KnownBytes.{ReadConsumes, Consumes};
 ghost use Rattle.qh_limits.specs.Limits.{max_circuit_bytes};
-ghost use Rattle.qh_counts.specs.Counts.{Rose};
+ghost use Rattle.qh_limits.specs.Counts.{Rose};
 ghost use Rattle.qh_io.specs.Causes.{HasCause};
 ghost use Rattle.qh_io.specs.Reading.{IsReadWhole};
 

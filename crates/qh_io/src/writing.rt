@@ -2,7 +2,7 @@
 ghost use Rattle.std.specs.Prelude.{◌≡◌, ◌≤◌, ◌<◌, ℕ, List, Option, IfOk, IfErr, OnErr, OnOk, length, take};
 ghost use Rattle.std.specs.Io.{WritesAtMost};
 ghost use Rattle.std.specs.Io.KnownBytes.{WriteAppends, Appends};
-ghost use Rattle.qh_counts.specs.Counts.{Rose};
+ghost use Rattle.qh_limits.specs.Counts.{Rose};
 ghost use Rattle.qh_io.specs.Causes.{HasCause};
 
 use crate::faults::{Failed, WriteFault};

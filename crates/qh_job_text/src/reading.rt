@@ -3,7 +3,7 @@ ghost use Rattle.std.specs.Prelude.{◌≡◌, ◌≢◌, ◌≤◌, ◌<◌, �
 ghost use Rattle.std.specs.Option.{ForSome};
 ghost use Rattle.std.specs.List.{flat_map};
 ghost use Rattle.qh_limits.specs.Limits.{max_qubits};
-ghost use Rattle.qh_decimal.specs.Decimal.{number_below};
+ghost use Rattle.qh_text.specs.Decimal.{number_below};
 ghost use Rattle.qh_plan.specs.Jobs.{Job as JobValue, IsJob};
 ghost use Rattle.qh_plan.specs.Plans.{IsPlanned};
 ghost use Rattle.qh_plan.specs.Texts.{bits_line, job_text, prefix_text, word, words};
@@ -11,11 +11,10 @@ ghost use Rattle.qh_job_text.specs.Readings.{AreParts, HasLines, text_fault};
 
 use crate::fault::JobTextFault;
 use qh_circuit::{CircuitFault, read_circuit};
-use qh_decimal::number_of;
 use qh_gates::Circuit;
 use qh_limits::MAX_QUBITS;
 use qh_plan::{Job, PlanFault, are_bits, plan};
-use qh_text::{cut_at, find, index_of};
+use qh_text::{cut_at, find, index_of, number_of};
 use std::alloc::{AllocError, Global};
 
 /// The lines of a job's text up to the bitstrings, and what stands behind them.

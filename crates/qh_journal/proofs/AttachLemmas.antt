@@ -3,7 +3,7 @@ use Rattle.std.proofs.Common.{◌≡◌, ◌<◌, ℕ, Bool, true, false, inl, i
 use Rattle.std.specs.Prelude.{if◌then◌else◌, IfErr, OnOk}
 use Rattle.std.proofs.lemmas.Bool.{cases_eq, ne_eqb}
 use Rattle.std.proofs.Math.Path.{ap₂}
-use Rattle.qh_counts.proofs.Chains.{rose_before}
+use Rattle.qh_limits.proofs.Chains.{rose_before}
 use Rattle.qh_plan.specs.declared.verdict.Verdict.{Verdict}
 use Rattle.qh_plan.specs.Jobs.{Job, ranges}
 use Rattle.qh_disk.specs.Disk.{Face, IsSafe, Reads}

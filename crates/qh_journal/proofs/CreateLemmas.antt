@@ -9,7 +9,7 @@ use Rattle.qh_disk.proofs.Moments.{runs_same, lasts_same, each_since_same}
 use Rattle.qh_slots.specs.Stands.{Slots, slot_at, nones, Stands, Made, Holds}
 use Rattle.qh_slots.specs.Attaching.{slots_of}
 use Rattle.qh_slots.proofs.StandLemmas.{one_map, closed}
-use Rattle.qh_record.specs.Moments.{StandsFor}
+use Rattle.qh_slots.specs.Moments.{StandsFor}
 use Rattle.qh_parts.specs.Sparing.{Spares}
 use Rattle.qh_parts.specs.Laying.{IsUnbegun, IsFresh, Creates}
 use Rattle.qh_parts.proofs.LayLemmas.{none_at}

@@ -10,7 +10,7 @@ use Rattle.qh_disk.specs.Disk.{Face, IsSafe, Reads}
 use Rattle.qh_disk.specs.Moments.{EachImage, Lasts}
 use Rattle.qh_disk.proofs.Moments.{lasts_now, lasts_same, runs_same}
 use Rattle.qh_slots.specs.Stands.{Slots, slot_at, AllFit, Stands, Made, Holds, Shut}
-use Rattle.qh_record.specs.Moments.{GoesOn}
+use Rattle.qh_slots.specs.Moments.{GoesOn}
 use Rattle.qh_parts.specs.Sparing.{Spares}
 use Rattle.qh_parts.specs.Groups.{AreShut, IsGroup, StandsPartly, filled, range_of, member_of}
 use Rattle.qh_parts.specs.declared.member.Member.{Member}

@@ -2,7 +2,7 @@
 use Rattle.std.specs.Prelude.{◌≡◌, ◌≤◌, length, ℕ, Bool, false, List, [], ⊤, Option, Some, None}
 use Rattle.std.specs.Option.{IsSomeAnd, ForSome}
 use Rattle.qh_limits.specs.Limits.{max_journal_bytes}
-use Rattle.qh_counts.specs.Counts.{Rose}
+use Rattle.qh_limits.specs.Counts.{Rose}
 use Rattle.qh_plan.specs.declared.verdict.Verdict.{Verdict}
 use Rattle.qh_plan.specs.Jobs.{Job, IsJob, ranges}
 use Rattle.qh_disk.specs.Disk.{Face, IsSafe, Reads}

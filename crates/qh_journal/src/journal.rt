@@ -2,14 +2,14 @@
 ghost use Rattle.std.specs.Prelude.{◌≡◌, ◌≢◌, ◌⊎◌, ◌<◌, ◌≤◌, ℕ, List, [], Some, None, OnOk, OnErr, IfOk, IfErr, IsOk, option_map, true, false, length, set};
 ghost use Rattle.std.specs.Option.{IsSomeAnd, ForSome};
 ghost use Rattle.std.specs.Arc.{arc_value};
-ghost use Rattle.qh_counts.specs.Counts.{Rose};
+ghost use Rattle.qh_limits.specs.Counts.{Rose};
 ghost use Rattle.qh_plan.specs.Jobs.{ranges, IsJob};
 ghost use Rattle.qh_plan.specs.Ranges.{Fits};
-ghost use Rattle.qh_meaning.specs.Values.{range_value};
+ghost use Rattle.qh_plan.specs.Values.{range_value};
 ghost use Rattle.qh_disk.specs.Disk.{IsSafe, Reads};
 ghost use Rattle.qh_disk.specs.Moments.{Lasts};
 ghost use Rattle.qh_slots.specs.Stands.{Slots, Stands, Made, slot_at, nones};
-ghost use Rattle.qh_record.specs.Moments.{GoesOn};
+ghost use Rattle.qh_slots.specs.Moments.{GoesOn};
 ghost use Rattle.qh_parts.specs.Sparing.{Spares};
 ghost use Rattle.qh_parts.specs.Groups.{AreShut, AreValues, IsGroup, StandsPartly, filled};
 ghost use Rattle.qh_journal.specs.Calls.{Attaches, AttachMayFail, CreateMayFail, IsCreated, IsJournal, Same, Went};

@@ -5,3 +5,11 @@ pub mod WriteLemmas
 pub mod DoneLemmas
 pub mod MoveLemmas
 pub mod GroupLemmas
+-- Lemmas that the answers cite, and those that the crates above cite.
+pub mod BoundLemmas
+mod WordLemmas
+mod PickLemmas
+mod MostLemmas
+mod HalfLemmas
+mod LargerLemmas
+mod EvenLemmas

@@ -2,3 +2,5 @@
 pub mod Rows
 pub mod Places
 pub mod Sources
+-- The definitions that contracts cite: the lanes of a vector.
+pub mod Lanes

@@ -1,6 +1,6 @@
 -- What contracts see of the two timers.
 use Rattle.std.specs.Prelude.{◌≡◌, ◌⊎◌, ℕ, Bool, true, false, List, set, slice_index_or, Option, Some, None}
-use Rattle.qh_counts.specs.Counts.{raised}
+use Rattle.qh_limits.specs.Counts.{raised}
 
 -- a timer that follows a script: the answers that are left, its counts, and the range and the attempt of the last grant that it was told
 pub record Script : Type 0 where

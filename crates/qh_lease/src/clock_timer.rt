@@ -1,7 +1,7 @@
 //! A timer that reads the clock.
 ghost use Rattle.std.specs.Prelude.{◌≡◌, ◌≤◌, ◌⊎◌, Some, None, Bool, true, false, slice_index_or, IsTrue, map, is_some, set};
 ghost use Rattle.std.specs.Bool.{OnTrue, OnFalse};
-ghost use Rattle.qh_counts.specs.Counts.{raised, Rose};
+ghost use Rattle.qh_limits.specs.Counts.{raised, Rose};
 ghost use Rattle.qh_lease.specs.TimerState.{Notes, MayAnswer};
 
 use crate::timer::Timer;

@@ -1,7 +1,7 @@
 //! A timer that follows a script.
 ghost use Rattle.std.specs.Prelude.{◌≡◌, ◌≤◌, drop, slice_index_or, false, None, IfOk};
 ghost use Rattle.std.specs.Bool.{OnTrue, OnFalse};
-ghost use Rattle.qh_counts.specs.Counts.{raised, Rose};
+ghost use Rattle.qh_limits.specs.Counts.{raised, Rose};
 ghost use Rattle.qh_lease.specs.TimerState.{told, next_answer};
 
 use crate::timer::Timer;

@@ -1,7 +1,7 @@
 //! What says that a lease has lasted too long.
 ghost use Rattle.std.specs.Prelude.{◌≡◌, ℕ, ◌≤◌, Bool};
 ghost use Rattle.std.specs.Bool.{OnTrue, OnFalse};
-ghost use Rattle.qh_counts.specs.Counts.{Rose};
+ghost use Rattle.qh_limits.specs.Counts.{Rose};
 
 /// What says that a lease has lasted too long. It may answer anything.
 ///

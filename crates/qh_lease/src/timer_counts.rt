@@ -1,9 +1,9 @@
 //! The three counts of a timer.
 ghost use Rattle.std.specs.Prelude.{◌≡◌, ◌≤◌};
 ghost use Rattle.std.specs.Bool.{OnTrue, OnFalse};
-ghost use Rattle.qh_counts.specs.Counts.{raised};
+ghost use Rattle.qh_limits.specs.Counts.{raised};
 
-use qh_counts::raise;
+use qh_limits::raise;
 
 // The three counts of a timer.
 #[derive(Debug, Drop)]

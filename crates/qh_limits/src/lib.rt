@@ -1,12 +1,17 @@
-//! The limits of circuits, cuts, texts and numbers, each under one name.
+//! The limits of circuits, cuts, texts and numbers, each under one name, and counts that stay at their last value.
 //!
-//! Every crate that tests a limit takes its number from here, and every definition takes it from
-//! `specs/Limits.antt`; `limits_are_stated` says that these are the same. Constants cost nothing.
-//! No limit is tested here.
+//! Every crate that tests a limit takes its number from here, and every definition takes it from `specs/Limits.antt`;
+//! `limits_are_stated` says that these are the same. Constants cost nothing, and a raise costs one addition. No limit is
+//! tested here. `specs/Counts.antt` says what it means that a count rose, and `proofs/Chains.antt` how rises follow one
+//! another.
 #![tactic(auto)]
+
+mod count;
 
 ghost use Rattle.std.specs.Prelude.{◌≡◌};
 ghost use Rattle.qh_limits.specs.Limits.{max_qubits, max_uncut_qubits, max_part_qubits, max_gates, max_crossing, max_path_bits, max_ranges, max_grants, max_bitstrings, max_circuit_bytes, max_bits_bytes, max_journal_bytes, coefficient_bits, product_bits, max_layers, max_weight, max_job_bytes, max_workers, max_lease, max_inputs};
+
+pub use count::raise;
 
 /// The most qubits of a circuit.
 pub const MAX_QUBITS: u32 = 40;

@@ -1,12 +1,12 @@
 -- Which end has status 3, and what it says of journals that runs made.
 use Rattle.std.proofs.Common.{◌≡◌, ℕ, List, arith}
 use Rattle.qh_disk.specs.Disk.{Face}
-use Rattle.qh_say.specs.Saying.{Seen}
-use Rattle.qh_union.specs.declared.fault.MergeFault.{MergeFault}
-use Rattle.qh_union.specs.declared.fault.MergeFault.TheVariants.{NoInput, DiskFault, Unread, WholeJob, OtherFamily, Unfinished, Unequal, Missing, Memory}
-use Rattle.qh_union.specs.declared.merging.Merged.TheVariants.{Lines, Overflow as MergedOverflow}
-use Rattle.qh_union.specs.Laws.{AllMade}
-use Rattle.qh_union.proofs.ExactLemmas.{exact}
+use Rattle.qh_io.specs.Saying.{Seen}
+use Rattle.qh_merge.specs.declared.fault.MergeFault.{MergeFault}
+use Rattle.qh_merge.specs.declared.fault.MergeFault.TheVariants.{NoInput, DiskFault, Unread, WholeJob, OtherFamily, Unfinished, Unequal, Missing, Memory}
+use Rattle.qh_merge.specs.declared.merging.Merged.TheVariants.{Lines, Overflow as MergedOverflow}
+use Rattle.qh_merge.specs.Laws.{AllMade}
+use Rattle.qh_merge.proofs.ExactLemmas.{exact}
 use Rattle.qh_merge.specs.declared.stop.Stop.{Stop}
 use Rattle.qh_merge.specs.declared.stop.Stop.TheVariants.{Fault, Overflow, WriteFault}
 use Rattle.qh_merge.specs.Ends.{IsOver, IsPrinted, MayStop, Prints, line_of, status_of, status_of_fault}

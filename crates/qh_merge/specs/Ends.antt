@@ -2,12 +2,12 @@
 use Rattle.std.specs.Prelude.{◌≡◌, ◌<◌, ℕ, List, ◌++◌, length, take, codes, decimal}
 use Rattle.std.specs.Io.KnownBytes.{Appends}
 use Rattle.qh_disk.specs.Disk.{Face}
-use Rattle.qh_say.specs.Saying.{Rises, Seen}
-use Rattle.qh_union.specs.declared.fault.MergeFault.{MergeFault}
-use Rattle.qh_union.specs.declared.fault.MergeFault.TheVariants.{NoInput, DiskFault, Unread, WholeJob, OtherFamily, Unfinished, Unequal, Missing, Memory}
-use Rattle.qh_union.specs.declared.merging.Merged.TheVariants.{Lines, Overflow as MergedOverflow}
-use Rattle.qh_union.specs.Laws.{IsExact}
-use Rattle.qh_union.specs.Merging.{IsMerged, MergeMayFail}
+use Rattle.qh_io.specs.Saying.{Rises, Seen}
+use Rattle.qh_merge.specs.declared.fault.MergeFault.{MergeFault}
+use Rattle.qh_merge.specs.declared.fault.MergeFault.TheVariants.{NoInput, DiskFault, Unread, WholeJob, OtherFamily, Unfinished, Unequal, Missing, Memory}
+use Rattle.qh_merge.specs.declared.merging.Merged.TheVariants.{Lines, Overflow as MergedOverflow}
+use Rattle.qh_merge.specs.Laws.{IsExact}
+use Rattle.qh_merge.specs.Merging.{IsMerged, MergeMayFail}
 use Rattle.qh_merge.specs.declared.stop.Stop.{Stop}
 use Rattle.qh_merge.specs.declared.stop.Stop.TheVariants.{Fault, Overflow, WriteFault}
 

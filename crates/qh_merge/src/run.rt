@@ -1,17 +1,17 @@
 //! The call that the program makes.
 ghost use Rattle.std.specs.Prelude.{◌≡◌, ◌≢◌, ◌≤◌, OnOk, IfErr, length};
 ghost use Rattle.std.specs.Io.KnownBytes.{Appends};
-ghost use Rattle.qh_say.specs.Saying.{Says, seen};
+ghost use Rattle.qh_io.specs.Saying.{Says, seen};
 ghost use Rattle.qh_limits.specs.Limits.{max_inputs};
-ghost use Rattle.qh_union.specs.Inputs.{AllLook};
-ghost use Rattle.qh_union.specs.Laws.{AllMade};
+ghost use Rattle.qh_merge.specs.Inputs.{AllLook};
+ghost use Rattle.qh_merge.specs.Laws.{AllMade};
 ghost use Rattle.qh_merge.specs.Ends.{IsOver, IsPrinted, MayStop, Prints, Stops, status_of};
 
 use crate::say::tell;
 use crate::stop::Stop;
+use crate::{Merged, merge};
 use qh_disk::Disk;
 use qh_io::{Sink, write_all_of};
-use qh_union::{Merged, merge};
 use std::alloc::Global;
 
 /// Merges, and writes the lines.

@@ -1,11 +1,10 @@
 //! What a merge says on the error sink. It takes no memory.
-ghost use Rattle.qh_say.specs.Saying.{Says, seen};
+ghost use Rattle.qh_io.specs.Saying.{Says, seen};
 ghost use Rattle.qh_merge.specs.Ends.{fault_line, line_of};
 
+use crate::MergeFault;
 use crate::stop::Stop;
-use qh_io::Sink;
-use qh_say::{say, say_number, say_numbers};
-use qh_union::MergeFault;
+use qh_io::{Sink, say, say_number, say_numbers};
 
 /// Says why inputs are not merged.
 fn tell_fault<E: Sink>(err: &mut E, fault: &MergeFault)

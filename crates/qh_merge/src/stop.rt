@@ -2,7 +2,7 @@
 ghost use Rattle.std.specs.Prelude.{◌≡◌};
 ghost use Rattle.qh_merge.specs.Ends.{status_of_fault};
 
-use qh_union::MergeFault;
+use crate::MergeFault;
 
 /// Why a merge ends otherwise than with status 0. A write fault has the number of bytes that went out.
 #[derive(Drop)]

@@ -1,6 +1,6 @@
 -- What a migration promises: why it stops, and what it leaves.
 use Rattle.std.specs.Prelude.{◌≡◌, ℕ, suc, List, [], ◌∷◌, ⊤, Option, Some, None}
-use Rattle.qh_counts.specs.Counts.{Rose}
+use Rattle.qh_limits.specs.Counts.{Rose}
 use Rattle.qh_plan.specs.Jobs.{Job}
 use Rattle.qh_disk.specs.Disk.{Face, IsSafe, Reads}
 use Rattle.qh_disk.specs.Moments.{EachImage, EachImageSince}

@@ -1,7 +1,7 @@
 //! The slots of an old journal, read from one disk and laid on another.
 ghost use Rattle.std.specs.Prelude.{◌≡◌, ◌+◌, ◌^◌, ◌<◌, ◌≤◌, ◌∷◌, ℕ, [], OnOk, OnErr, IfOk, IfErr, Option, Some, None, length, vec_len, take};
 ghost use Rattle.qh_limits.specs.Limits.{max_journal_bytes};
-ghost use Rattle.qh_counts.specs.Counts.{Rose};
+ghost use Rattle.qh_limits.specs.Counts.{Rose};
 ghost use Rattle.qh_plan.specs.declared.verdict.Verdict.{Verdict as VerdictValue};
 ghost use Rattle.qh_plan.specs.Jobs.{ranges};
 ghost use Rattle.qh_plan.specs.Ranges.{Fits};

@@ -8,10 +8,10 @@ use Rattle.qh_ring.specs.Laws.{AllLess}
 use Rattle.qh_ring.specs.States.{listed}
 use Rattle.qh_blocks.specs.declared.block.Block.{Block}
 use Rattle.qh_blocks.specs.Numbers.{number_at, numbers}
-use Rattle.qh_tiles.specs.declared.turn.Turn.{Turn}
-use Rattle.qh_tiles.specs.declared.turn.Turn.TheVariants.{One, Two}
-use Rattle.qh_tiles.specs.Turns.{qubits_in, after_turns, IsTurnIn, width_turned, width_after_turns}
-use Rattle.qh_tiles.proofs.RunLemmas.{widths_append}
+use Rattle.qh_passes.specs.declared.turn.Turn.{Turn}
+use Rattle.qh_passes.specs.declared.turn.Turn.TheVariants.{One, Two}
+use Rattle.qh_passes.specs.Turns.{qubits_in, after_turns, IsTurnIn, width_turned, width_after_turns}
+use Rattle.qh_passes.proofs.RunLemmas.{widths_append}
 use Rattle.qh_narrow.specs.Columns.{first_numbers, AreBlocksOf}
 use Rattle.qh_narrow.proofs.BlocksLemmas.{past_end}
 

@@ -8,7 +8,7 @@ use Rattle.std.proofs.lemmas.Bool.{cases_eq, cases_lt}
 use Rattle.std.proofs.lemmas.List.{length-replicate, get_or-replicate, get_or-set_same, get_or-set_other, get_or-map}
 use Rattle.qh_ring.specs.Numbers.{IsBelow, nothing}
 use Rattle.qh_ring.proofs.ListedLemmas.{listed_same}
-use Rattle.qh_vectors.specs.Lanes.{at_lane, AreBelow}
+use Rattle.qh_kernel.specs.Lanes.{at_lane, AreBelow}
 use Rattle.qh_blocks.specs.declared.block.Block.{Block}
 use Rattle.qh_blocks.specs.Blocks.{lane, IsBlock}
 use Rattle.qh_blocks.specs.Numbers.{number_in_block, number_at}

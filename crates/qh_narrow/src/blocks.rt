@@ -12,9 +12,9 @@ ghost use Rattle.qh_narrow.specs.Factor.{with_factor};
 
 use crate::wide::Wide;
 use qh_blocks::{Block, bits_of, fits_after, ground_blocks, take_roots, width_of};
+use qh_kernel::Vector;
 use qh_passes::{apply1, apply2};
 use qh_ring::{Mat2, Mat4};
-use qh_vectors::Vector;
 use std::alloc::{AllocError, Global};
 
 /// The number of qubits above the lanes.

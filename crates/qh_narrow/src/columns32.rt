@@ -5,7 +5,7 @@ ghost use Rattle.qh_ring.specs.Numbers.{IsWithin};
 ghost use Rattle.qh_ring.specs.Matrices.{number_in};
 ghost use Rattle.qh_ring.specs.States.{at_index, applied_list, listed, ground};
 ghost use Rattle.qh_kernel.specs.Rows.{are_single};
-ghost use Rattle.qh_tiles.specs.Turns.{after_turns, IsTurnIn, StayWithin};
+ghost use Rattle.qh_passes.specs.Turns.{after_turns, IsTurnIn, StayWithin};
 ghost use Rattle.qh_narrow.specs.Columns.{narrow_bits32, zeros};
 ghost use Rattle.qh_narrow.specs.Factor.{with_factor};
 
@@ -17,8 +17,8 @@ use crate::stored::{
 use crate::wide::Wide;
 use crate::widen::widen_onto;
 use qh_blocks::Block;
+use qh_passes::Turn;
 use qh_ring::{Mat2, Mat4, Omega};
-use qh_tiles::Turn;
 use std::alloc::{AllocError, Global};
 use std::marker::Model;
 use std::simd::{i32x8, i64x8};

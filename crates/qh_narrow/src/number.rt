@@ -2,13 +2,13 @@
 ghost use Rattle.std.specs.Prelude.{◌≡◌, ◌-◌, ◌^◌, ◌/◌, ◌%◌, ◌<◌, ◌≤◌, All};
 ghost use Rattle.qh_ring.specs.Numbers.{IsWithin};
 ghost use Rattle.qh_ring.specs.States.{at_index};
-ghost use Rattle.qh_vectors.specs.Lanes.{at_lane, AreBelow};
+ghost use Rattle.qh_kernel.specs.Lanes.{at_lane, AreBelow};
 ghost use Rattle.qh_blocks.specs.Blocks.{lane, IsBlock};
 ghost use Rattle.qh_narrow.specs.Columns.{first_numbers};
 
 use qh_blocks::Block;
+use qh_kernel::Vector;
 use qh_ring::Omega;
-use qh_vectors::Vector;
 
 /// The index of the block that has number `index`.
 fn block_index(index: u32, places: u32) -> usize

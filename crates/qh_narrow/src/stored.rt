@@ -6,7 +6,7 @@ ghost use Rattle.qh_ring.specs.Numbers.{IsWithin};
 ghost use Rattle.qh_ring.specs.Matrices.{number_in};
 ghost use Rattle.qh_ring.specs.States.{applied_list, ground, listed};
 ghost use Rattle.qh_kernel.specs.Rows.{are_single};
-ghost use Rattle.qh_tiles.specs.Turns.{after_turns, IsTurnIn, StayWithin};
+ghost use Rattle.qh_passes.specs.Turns.{after_turns, IsTurnIn, StayWithin};
 ghost use Rattle.qh_narrow.specs.Columns.{first_numbers, zeros, AreHeld};
 ghost use Rattle.qh_narrow.specs.Factor.{with_factor};
 
@@ -14,9 +14,9 @@ use crate::blocks::{ground_state, high_qubits, reduce, turn1, turn2};
 use crate::tiles::turn_tiles;
 use crate::wide::Wide;
 use qh_blocks::Block;
+use qh_kernel::Vector;
+use qh_passes::Turn;
 use qh_ring::{Mat2, Mat4};
-use qh_tiles::Turn;
-use qh_vectors::Vector;
 use std::alloc::{AllocError, Global};
 
 /// How many blocks the numbers of so many qubits take.

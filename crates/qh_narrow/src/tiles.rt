@@ -1,13 +1,13 @@
 //! Runs of turns on the blocks of a state, tile by tile.
 ghost use Rattle.std.specs.Prelude.{◌≡◌, ◌≤◌, ◌<◌, ◌-◌, length, take, All};
 ghost use Rattle.qh_ring.specs.Laws.{AllLess};
-ghost use Rattle.qh_tiles.specs.Turns.{qubits_in, after_turns, IsTurnIn, width_after_turns, StayWithin};
+ghost use Rattle.qh_passes.specs.Turns.{qubits_in, after_turns, IsTurnIn, width_after_turns, StayWithin};
 ghost use Rattle.qh_narrow.specs.Columns.{first_numbers, AreKept};
 
 use crate::blocks::high_qubits;
 use qh_blocks::Block;
-use qh_tiles::{Turn, apply_run};
-use qh_vectors::Vector;
+use qh_kernel::Vector;
+use qh_passes::{Turn, apply_run};
 
 /// The bytes of a tile: a quarter of the level-2 cache of a core of today's servers, so that a tile stays there while a run
 /// goes over it.

@@ -1,13 +1,13 @@
 //! The step to wider lanes: the same numbers.
 ghost use Rattle.std.specs.Prelude.{◌≡◌, ◌≤◌, ◌<◌, ◌+◌, ◌-◌, ◌*◌, ◌/◌, ◌%◌, ◌^◌, ℕ, length, All};
 ghost use Rattle.std.specs.Vec.{vec_capacity};
-ghost use Rattle.qh_vectors.specs.Lanes.{at_lane, AreBelow};
+ghost use Rattle.qh_kernel.specs.Lanes.{at_lane, AreBelow};
 ghost use Rattle.qh_blocks.specs.Blocks.{lane, IsBlock};
 ghost use Rattle.qh_narrow.specs.Columns.{first_numbers, AreBlocksOf, AreHeld};
 
 use crate::stored::block_count;
 use qh_blocks::Block;
-use qh_vectors::Vector;
+use qh_kernel::Vector;
 
 /// The lanes of a vector from lane `from` on, as many as a vector of wider lanes has.
 #[inline(always)]

@@ -15,7 +15,7 @@ use Rattle.qh_disk.proofs.Rules.{told_before, resized_length, resized_beyond, ov
 use Rattle.qh_slots.specs.Layout.{mark, head, place, part, slot_size, body_size}
 use Rattle.qh_slots.specs.Slots.{SlotIs, spelled}
 use Rattle.qh_slots.specs.Stands.{Slots, slot_at, nones, Stands, Holds}
-use Rattle.qh_record.specs.Moments.{StandsFor}
+use Rattle.qh_slots.specs.Moments.{StandsFor}
 use Rattle.qh_slots.proofs.StandLemmas.{head_size, head_named}
 use Rattle.qh_slots.proofs.SpellingLemmas.{spelled_size}
 use Rattle.qh_slots.proofs.PlaceLemmas.{place_start, apart}

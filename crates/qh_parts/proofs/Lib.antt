@@ -6,3 +6,5 @@ pub mod PartLemmas
 pub mod LayLemmas
 pub mod WipeLemmas
 pub mod GroupLemmas
+-- Lemmas that several functions need.
+pub mod HeadLemmas

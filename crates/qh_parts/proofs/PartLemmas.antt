@@ -5,7 +5,7 @@ use Rattle.std.specs.Prelude.{OnOk}
 use Rattle.qh_plan.specs.declared.verdict.Verdict.{Verdict}
 use Rattle.qh_plan.specs.Jobs.{Job, IsJob, ranges}
 use Rattle.qh_plan.specs.Ranges.{Fits}
-use Rattle.qh_meaning.specs.Values.{range_value}
+use Rattle.qh_plan.specs.Values.{range_value}
 use Rattle.qh_disk.specs.Disk.{Face, IsImage, Reads, Becomes, overwritten, Torn, Turns, Calls}
 use Rattle.qh_disk.specs.Moments.{EachImage, Lasts}
 use Rattle.qh_disk.specs.Looks.{Looks}
@@ -16,7 +16,7 @@ use Rattle.qh_disk.proofs.Rules.{overwritten_inside, overwritten_torn, told_befo
 use Rattle.qh_slots.specs.Layout.{mark, head, place, part, body_size}
 use Rattle.qh_slots.specs.Slots.{spelled}
 use Rattle.qh_slots.specs.Stands.{Slots, Stands, Made, Holds, Shut, Behind}
-use Rattle.qh_record.specs.Moments.{StandsFor, GoesOn}
+use Rattle.qh_slots.specs.Moments.{StandsFor, GoesOn}
 use Rattle.qh_parts.specs.Sparing.{Spares}
 use Rattle.qh_slots.proofs.SpellingLemmas.{spelled_size}
 use Rattle.qh_slots.proofs.PlaceLemmas.{apart}

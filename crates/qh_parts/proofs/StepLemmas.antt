@@ -5,13 +5,13 @@ use Rattle.std.proofs.lemmas.List.{places, ext_get_or, length-set, get_or-set_sa
 use Rattle.qh_plan.specs.declared.verdict.Verdict.{Verdict}
 use Rattle.qh_plan.specs.Jobs.{Job, IsJob, ranges}
 use Rattle.qh_plan.specs.Ranges.{Fits}
-use Rattle.qh_meaning.specs.Values.{range_value}
+use Rattle.qh_plan.specs.Values.{range_value}
 use Rattle.qh_disk.specs.Disk.{Torn}
 use Rattle.qh_slots.specs.Layout.{mark, head, place, part, slot_size, body_size, body}
 use Rattle.qh_slots.specs.Slots.{SlotIs, spelled}
 use Rattle.qh_slots.specs.Stands.{Slots, slot_at, Stands, StandsTrue, Made, Holds, Shut, Behind}
-use Rattle.qh_record.specs.Record.{Extends}
-use Rattle.qh_record.specs.Moments.{StandsFor, GoesOn}
+use Rattle.qh_slots.specs.Record.{Extends}
+use Rattle.qh_slots.specs.Moments.{StandsFor, GoesOn}
 use Rattle.qh_slots.proofs.StandLemmas.{one_list, head_size, head_named}
 use Rattle.qh_slots.proofs.PlaceLemmas.{place_start, apart}
 

@@ -5,7 +5,7 @@ use Rattle.qh_plan.specs.declared.verdict.Verdict.{Verdict}
 use Rattle.qh_plan.specs.declared.verdict.Verdict.TheVariants.{Over}
 use Rattle.qh_plan.specs.Jobs.{Job, ranges}
 use Rattle.qh_plan.specs.Ranges.{Fits}
-use Rattle.qh_meaning.specs.Values.{range_value}
+use Rattle.qh_plan.specs.Values.{range_value}
 use Rattle.qh_parts.specs.declared.member.Member.{Member}
 use Rattle.qh_slots.specs.Stands.{Slots, slot_at, Stands}
 

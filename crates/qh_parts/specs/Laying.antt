@@ -8,7 +8,7 @@ use Rattle.qh_disk.specs.Moments.{EachImage, EachImageSince, Runs, Lasts}
 use Rattle.qh_slots.specs.Layout.{mark, head, place}
 use Rattle.qh_slots.specs.Slots.{SlotIs}
 use Rattle.qh_slots.specs.Stands.{Slots, slot_at, Stands, Made, Holds}
-use Rattle.qh_record.specs.Moments.{StandsFor}
+use Rattle.qh_slots.specs.Moments.{StandsFor}
 
 -- its header is closed; so is that of the empty file
 abbrev pub IsUnbegun : List ℕ → Type 0

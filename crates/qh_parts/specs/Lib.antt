@@ -3,3 +3,5 @@ pub mod Reading
 pub mod Sparing
 pub mod Laying
 pub mod Groups
+-- The job that a file names, and why it names none.
+pub mod Naming

@@ -1,6 +1,6 @@
 -- Calls that read alone, and why the reading of a journal stops.
 use Rattle.std.specs.Prelude.{◌≡◌, ◌≤◌, ℕ, List, ⊤, false, Some}
-use Rattle.qh_counts.specs.Counts.{Rose}
+use Rattle.qh_limits.specs.Counts.{Rose}
 use Rattle.qh_plan.specs.Jobs.{Job}
 use Rattle.qh_disk.specs.Disk.{Face, IsImage, Reads}
 use Rattle.qh_disk.specs.Looks.{Looks}

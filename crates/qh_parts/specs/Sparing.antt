@@ -5,7 +5,7 @@ use Rattle.qh_plan.specs.Jobs.{Job}
 use Rattle.qh_disk.specs.Disk.{Face}
 use Rattle.qh_disk.specs.Moments.{Runs, Lasts}
 use Rattle.qh_slots.specs.Stands.{Holds}
-use Rattle.qh_record.specs.Moments.{StandsFor}
+use Rattle.qh_slots.specs.Moments.{StandsFor}
 
 -- Some calls: what is stable stays stable, a file that stands for the job goes on doing so, and where no crash leaves anything, that stays so.
 pub record Spares (j : Job) (old new : Face) : Type 0 where

@@ -3,12 +3,12 @@ ghost use Rattle.std.specs.Prelude.{◌≡◌, ◌+◌, ◌^◌, ◌<◌, ◌≤
 ghost use Rattle.qh_limits.specs.Limits.{max_journal_bytes};
 ghost use Rattle.qh_plan.specs.Jobs.{ranges, IsJob};
 ghost use Rattle.qh_plan.specs.declared.verdict.Verdict.{Verdict as VerdictValue};
-ghost use Rattle.qh_counts.specs.Counts.{Rose};
+ghost use Rattle.qh_limits.specs.Counts.{Rose};
 ghost use Rattle.qh_disk.specs.Disk.{IsSafe, Reads};
 ghost use Rattle.qh_disk.specs.Moments.{EachImage, Lasts};
 ghost use Rattle.qh_slots.specs.Layout.{head, place, body_size};
 ghost use Rattle.qh_slots.specs.Stands.{Slots, Stands, Made, Holds, Shut, Behind};
-ghost use Rattle.qh_record.specs.Moments.{GoesOn};
+ghost use Rattle.qh_slots.specs.Moments.{GoesOn};
 ghost use Rattle.qh_parts.specs.Sparing.{Spares};
 ghost use Rattle.qh_parts.specs.Groups.{AreValues, IsGroup, StandsPartly, filled, range_of, member_of};
 

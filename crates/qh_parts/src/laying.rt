@@ -1,6 +1,6 @@
 //! How a journal is made on an empty file.
 ghost use Rattle.std.specs.Prelude.{◌≡◌, ◌<◌, ◌≤◌, ◌∷◌, ℕ, List, [], Some, OnOk, OnErr, IfErr, length, set};
-ghost use Rattle.qh_counts.specs.Counts.{Rose};
+ghost use Rattle.qh_limits.specs.Counts.{Rose};
 ghost use Rattle.qh_plan.specs.Jobs.{ranges};
 ghost use Rattle.qh_plan.specs.Ranges.{Fits};
 ghost use Rattle.qh_disk.specs.Disk.{IsSafe, Reads};

@@ -1,6 +1,6 @@
 //! How a file is read that may be a journal.
 ghost use Rattle.std.specs.Prelude.{◌≡◌, ◌+◌, ◌^◌, ◌<◌, ◌≤◌, ◌∷◌, ◌++◌, [], ℕ, IfOk, IfErr, IfSome, OnOk, OnErr, length, min, take, vec_len};
-ghost use Rattle.qh_counts.specs.Counts.{Rose};
+ghost use Rattle.qh_limits.specs.Counts.{Rose};
 ghost use Rattle.qh_plan.specs.Jobs.{ranges};
 ghost use Rattle.qh_plan.specs.Ranges.{Fits};
 ghost use Rattle.qh_disk.specs.Disk.{IsSafe, Reads};

@@ -3,14 +3,14 @@ ghost use Rattle.std.specs.Prelude.{◌≡◌, ◌≢◌, ◌⊎◌, ◌+◌, �
 ghost use Rattle.qh_plan.specs.Jobs.{ranges, IsJob};
 ghost use Rattle.qh_plan.specs.declared.verdict.Verdict.{Verdict as VerdictValue};
 ghost use Rattle.qh_plan.specs.Ranges.{Fits};
-ghost use Rattle.qh_meaning.specs.Values.{range_value};
-ghost use Rattle.qh_counts.specs.Counts.{Rose};
+ghost use Rattle.qh_plan.specs.Values.{range_value};
+ghost use Rattle.qh_limits.specs.Counts.{Rose};
 ghost use Rattle.qh_disk.specs.Disk.{IsSafe, Reads};
 ghost use Rattle.qh_disk.specs.Moments.{EachImage, Lasts};
 ghost use Rattle.qh_slots.specs.Layout.{head, place};
 ghost use Rattle.qh_slots.specs.Slots.{spelled};
 ghost use Rattle.qh_slots.specs.Stands.{Slots, slot_at, Stands, Made, Holds, Shut, Behind};
-ghost use Rattle.qh_record.specs.Moments.{GoesOn};
+ghost use Rattle.qh_slots.specs.Moments.{GoesOn};
 ghost use Rattle.qh_parts.specs.Sparing.{Spares};
 
 use crate::reading::settle;

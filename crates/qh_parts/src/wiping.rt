@@ -1,7 +1,7 @@
 //! How a file is emptied.
 ghost use Rattle.std.specs.Prelude.{◌≡◌, ◌↔◌, ℕ, List, [], OnOk, OnErr, IfOk, IfErr, IsTrue};
 ghost use Rattle.std.proofs.Common.{get_or};
-ghost use Rattle.qh_counts.specs.Counts.{Rose};
+ghost use Rattle.qh_limits.specs.Counts.{Rose};
 ghost use Rattle.qh_disk.specs.Disk.{IsSafe, Reads};
 ghost use Rattle.qh_disk.specs.Looks.{Looks};
 ghost use Rattle.qh_disk.specs.Moments.{EachImage};

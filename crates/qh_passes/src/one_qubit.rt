@@ -9,8 +9,8 @@ ghost use Rattle.qh_blocks.specs.Numbers.{numbers};
 ghost use Rattle.qh_blocks.specs.Widths.{two_rows, width_after};
 
 use qh_blocks::{Block, lane_blocks, pair_blocks};
+use qh_kernel::Vector;
 use qh_ring::{Entry, Mat2};
-use qh_vectors::Vector;
 
 /// `pair_blocks`, with code of its own for each usual gate whose rows have two entries.
 fn pairs_added<V: Vector>(

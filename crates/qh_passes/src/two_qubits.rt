@@ -10,8 +10,8 @@ ghost use Rattle.qh_blocks.specs.Numbers.{numbers};
 
 use crate::usual::{CNOT, CZ, ID, IS, SW, is_matrix};
 use qh_blocks::{Block, high_low_blocks, low_high_blocks, low_low_blocks, quad_blocks};
+use qh_kernel::Vector;
 use qh_ring::Mat4;
-use qh_vectors::Vector;
 
 /// `quad_blocks`, with code of its own for each usual gate.
 fn quads_moved<V: Vector>(v: &mut [Block<V>], qubits: u32, q0: u32, q1: u32, bits: u32, m: &Mat4)

@@ -9,3 +9,14 @@ pub mod ItemLemmas
 pub mod Examples
 pub mod SameLemmas
 pub mod OneTextLemmas
+pub mod PartLemmas
+pub mod PathValueLemmas
+pub mod HalfLemmas
+pub mod LimitLemmas
+pub mod RunValueLemmas
+pub mod OverLemmas
+pub mod TraceLemmas
+pub mod PrefixLemmas
+pub mod TotalLemmas
+pub mod MeaningExamples
+pub mod SlotLemmas

@@ -6,8 +6,8 @@ use Rattle.std.proofs.lemmas.Fmt.{decimal_is_IsNumeral}
 use Rattle.std.proofs.lemmas.Nat.{mul-le}
 use Rattle.std.proofs.Math.Nat.{mul-one}
 use Rattle.std.proofs.lemmas.List.Elements.{All-nil, All-cons, All-append, All-weaker}
-use Rattle.qh_decimal.specs.Decimal.{number_below}
-use Rattle.qh_decimal.proofs.Digits.{computed}
+use Rattle.qh_text.specs.Decimal.{number_below}
+use Rattle.qh_text.proofs.Digits.{computed}
 use Rattle.qh_text.specs.Bitstrings.{bits_text}
 use Rattle.qh_text.proofs.CutLemmas.{Without, each_without, cut_same}
 use Rattle.qh_gates.specs.declared.gate.Gate.{Gate}

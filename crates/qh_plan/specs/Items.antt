@@ -1,6 +1,6 @@
 -- The items of a list of numbers: what stands between its commas.
 use Rattle.std.specs.Prelude.{◌≡◌, ◌==◌, ℕ, ◌^◌, ◌<◌, List, [], ◌∷◌, length, slice_index_or, Option, Some, None, IsSome, if◌then◌else◌}
-use Rattle.qh_decimal.specs.Decimal.{number_below}
+use Rattle.qh_text.specs.Decimal.{number_below}
 use Rattle.qh_plan.specs.declared.fault.PlanFault.{PlanFault}
 use Rattle.qh_plan.specs.declared.fault.PlanFault.TheVariants.{PartText}
 

@@ -7,3 +7,12 @@ pub mod Texts
 pub mod Plans
 pub mod Ranges
 pub mod Items
+-- What a cut circuit means: what is asked, what each path gives, and what a run answers.
+pub mod PathValues
+pub mod Halves
+pub mod Asked
+pub mod MeaningLimits
+pub mod Values
+pub mod Traces
+pub mod Laws
+pub mod Slots

@@ -3,8 +3,7 @@ ghost use Rattle.std.specs.Prelude.{◌≡◌, ◌≢◌, ◌++◌, ◌∷◌, �
 ghost use Rattle.qh_plan.specs.Items.{AreNumbers, IsItemFault, items_of};
 
 use crate::fault::PlanFault;
-use qh_decimal::number_of;
-use qh_text::find;
+use qh_text::{find, number_of};
 use std::alloc::Global;
 
 /// The numbers of a list with single commas between them, as in `0,2,5`.

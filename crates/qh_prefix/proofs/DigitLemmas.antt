@@ -8,8 +8,8 @@ use Rattle.qh_plan.specs.Plans.{IsRadix}
 use Rattle.qh_plan.specs.Jobs.{Job, IsJob, job_radices, prefixes, paths, digits_of}
 use Rattle.qh_plan.proofs.PathLemmas.{path_count_split, digits_split}
 use Rattle.qh_plan.proofs.DigitLemmas.{count_positive}
-use Rattle.qh_meaning.proofs.PrefixLemmas.{length-path_digits}
-use Rattle.qh_part.proofs.StageLemmas.{job_known, prefix_few}
+use Rattle.qh_plan.proofs.PrefixLemmas.{length-path_digits}
+use Rattle.qh_prefix.proofs.StageLemmas.{job_known, prefix_few}
 use Rattle.qh_prefix.specs.Checkpoints.{prefix_digits}
 
 -- how many paths each prefix value has

@@ -6,16 +6,16 @@ use Rattle.qh_ring.specs.declared.number.Omega.{Omega}
 use Rattle.qh_ring.specs.States.{ground}
 use Rattle.qh_plan.specs.Jobs.{Job, IsJob}
 use Rattle.qh_half.specs.Halves.{Half}
-use Rattle.qh_meaning.specs.Halves.{half_operations}
-use Rattle.qh_part.specs.declared.part.Part.{Part}
-use Rattle.qh_part.specs.declared.stage.Stage.TheVariants.{Prefix}
-use Rattle.qh_part.specs.declared.place.Placed.{Placed}
-use Rattle.qh_part.specs.Parts.{in_part, width, acts_in}
-use Rattle.qh_part.specs.Places.{IsPlacedIn, operations, term_counts}
-use Rattle.qh_part.specs.Runs.{IsAfter}
-use Rattle.qh_part.specs.Stages.{stage_gates, stage_radices}
-use Rattle.qh_part.proofs.PlaceLemmas.{operations_placed, length_placed}
-use Rattle.qh_part.proofs.StageLemmas.{stage_takes}
+use Rattle.qh_plan.specs.Halves.{half_operations}
+use Rattle.qh_prefix.specs.declared.part.Part.{Part}
+use Rattle.qh_prefix.specs.declared.stage.Stage.TheVariants.{Prefix}
+use Rattle.qh_prefix.specs.declared.place.Placed.{Placed}
+use Rattle.qh_prefix.specs.Parts.{in_part, width, acts_in}
+use Rattle.qh_prefix.specs.Places.{IsPlacedIn, operations, term_counts}
+use Rattle.qh_prefix.specs.Runs.{IsAfter}
+use Rattle.qh_prefix.specs.Stages.{stage_gates, stage_radices}
+use Rattle.qh_prefix.proofs.PlaceLemmas.{operations_placed, length_placed}
+use Rattle.qh_prefix.proofs.StageLemmas.{stage_takes}
 use Rattle.qh_prefix.specs.declared.checkpoint.Start.{Start}
 use Rattle.qh_prefix.specs.Checkpoints.{IsAtPrefix, prefix_digits, prefix_operations}
 use Rattle.qh_prefix.specs.Starts.{IsStart}

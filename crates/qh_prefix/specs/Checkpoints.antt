@@ -5,13 +5,13 @@ use Rattle.qh_gates.specs.Evolution.{Operation}
 use Rattle.qh_plan.specs.Paths.{path_digits}
 use Rattle.qh_plan.specs.Jobs.{Job, prefixes}
 use Rattle.qh_half.specs.Halves.{Half}
-use Rattle.qh_meaning.specs.Halves.{half_operations}
-use Rattle.qh_meaning.specs.Traces.{half_after, HoldsHalf}
-use Rattle.qh_part.specs.declared.part.Part.{Part}
-use Rattle.qh_part.specs.declared.part.Part.TheVariants.{One, Two}
-use Rattle.qh_part.specs.declared.stage.Stage.TheVariants.{Prefix}
-use Rattle.qh_part.specs.Parts.{in_part, width}
-use Rattle.qh_part.specs.Stages.{stage_gates, stage_radices}
+use Rattle.qh_plan.specs.Halves.{half_operations}
+use Rattle.qh_plan.specs.Traces.{half_after, HoldsHalf}
+use Rattle.qh_prefix.specs.declared.part.Part.{Part}
+use Rattle.qh_prefix.specs.declared.part.Part.TheVariants.{One, Two}
+use Rattle.qh_prefix.specs.declared.stage.Stage.TheVariants.{Prefix}
+use Rattle.qh_prefix.specs.Parts.{in_part, width}
+use Rattle.qh_prefix.specs.Stages.{stage_gates, stage_radices}
 
 -- a job, a prefix value of it, and a half of each part
 pub record Checkpoint : Type 0 where

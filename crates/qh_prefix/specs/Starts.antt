@@ -2,11 +2,11 @@
 use Rattle.std.specs.Prelude.{◌≡◌, All, Some}
 use Rattle.qh_ring.specs.States.{listed, ground}
 use Rattle.qh_plan.specs.Jobs.{Job}
-use Rattle.qh_part.specs.declared.part.Part.{Part}
-use Rattle.qh_part.specs.declared.stage.Stage.TheVariants.{Prefix}
-use Rattle.qh_part.specs.Parts.{in_part, width}
-use Rattle.qh_part.specs.Places.{IsPlacedIn, placed}
-use Rattle.qh_part.specs.Stages.{stage_gates}
+use Rattle.qh_prefix.specs.declared.part.Part.{Part}
+use Rattle.qh_prefix.specs.declared.stage.Stage.TheVariants.{Prefix}
+use Rattle.qh_prefix.specs.Parts.{in_part, width}
+use Rattle.qh_prefix.specs.Places.{IsPlacedIn, placed}
+use Rattle.qh_prefix.specs.Stages.{stage_gates}
 use Rattle.qh_prefix.specs.declared.checkpoint.Start.{Start}
 
 -- the gates of the prefix that act in the part, and its half with all qubits 0

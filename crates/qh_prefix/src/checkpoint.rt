@@ -4,16 +4,15 @@ ghost use Rattle.std.specs.List.{AllZip};
 ghost use Rattle.std.specs.Arc.{arc_value};
 ghost use Rattle.qh_ring.specs.States.{listed, ground};
 ghost use Rattle.qh_plan.specs.Jobs.{IsJob, prefixes};
-ghost use Rattle.qh_part.specs.declared.stage.Stage.TheVariants as Stages;
-ghost use Rattle.qh_part.specs.Stages.{stage_radices, stage_steps};
+ghost use Rattle.qh_prefix.specs.declared.stage.Stage.TheVariants as Stages;
+ghost use Rattle.qh_prefix.specs.Stages.{stage_radices, stage_steps};
 ghost use Rattle.qh_prefix.specs.Checkpoints.{IsCheckpoint, prefix_digits};
 ghost use Rattle.qh_prefix.specs.Starts.{IsStart};
 
+use crate::{Part, Placed, Stage, part_width, place_stage, run_placed};
 use arrayvec::ArrayVec;
-use qh_half::Half;
-use qh_part::{Part, Placed, Stage, part_width, place_stage, run_placed};
+use qh_half::{Half, Steps};
 use qh_plan::Job;
-use qh_steps::Steps;
 use std::alloc::{AllocError, Global};
 use std::marker::Model;
 use std::sync::Arc;
@@ -100,7 +99,7 @@ pub fn make_checkpoint<L: Ledger>(
 
 impl Checkpoint {
     ghost use Rattle.std.specs.Prelude.{◌≡◌, ◌↔◌, IsTrue};
-    ghost use Rattle.qh_part.specs.declared.part.Part.TheVariants as Parts;
+    ghost use Rattle.qh_prefix.specs.declared.part.Part.TheVariants as Parts;
     ghost use Rattle.qh_prefix.specs.Checkpoints.{IsCheckpoint, IsAtPrefix};
 
     /// Whether it is the checkpoint of this prefix value of the job.

@@ -5,3 +5,6 @@ pub mod ProductLemmas
 pub mod PathLemmas
 pub mod ValueLemmas
 pub mod Examples
+pub mod RunLemmas
+mod SolveLemmas
+mod TotalLemmas

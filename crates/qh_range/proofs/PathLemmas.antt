@@ -12,14 +12,14 @@ use Rattle.qh_gates.specs.Evolution.{Operation, evolved}
 use Rattle.qh_plan.specs.Parts.{local_index}
 use Rattle.qh_plan.specs.Jobs.{Job, digits_of}
 use Rattle.qh_plan.specs.Verdicts.{added}
-use Rattle.qh_meaning.specs.Halves.{half_operations, half_state, half_amplitude, half_one, half_two, contribution}
-use Rattle.qh_meaning.specs.Limits.{trace_fits, half_fits, are_narrow, path_fits}
-use Rattle.qh_meaning.specs.Traces.{kept_where, half_after, HoldsHalf}
-use Rattle.qh_meaning.proofs.TraceLemmas.{half_after_is}
-use Rattle.qh_meaning.proofs.PartLemmas.{local_below}
-use Rattle.qh_part.specs.declared.part.Part.{Part}
-use Rattle.qh_part.specs.declared.part.Part.TheVariants.{One, Two}
-use Rattle.qh_part.specs.Parts.{in_part, width}
+use Rattle.qh_plan.specs.Halves.{half_operations, half_state, half_amplitude, half_one, half_two, contribution}
+use Rattle.qh_plan.specs.MeaningLimits.{trace_fits, half_fits, are_narrow, path_fits}
+use Rattle.qh_plan.specs.Traces.{kept_where, half_after, HoldsHalf}
+use Rattle.qh_plan.proofs.TraceLemmas.{half_after_is}
+use Rattle.qh_plan.proofs.PartLemmas.{local_below}
+use Rattle.qh_prefix.specs.declared.part.Part.{Part}
+use Rattle.qh_prefix.specs.declared.part.Part.TheVariants.{One, Two}
+use Rattle.qh_prefix.specs.Parts.{in_part, width}
 use Rattle.qh_range.specs.Sides.{at_half, number_at}
 
 kept : (n : ℕ) (b : Bool) (v : ℕ → Omega) (numbers : Option (List Omega)) → HoldsHalf n (kept_where b v) numbers

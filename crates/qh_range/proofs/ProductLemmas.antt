@@ -11,12 +11,12 @@ use Rattle.qh_ring.specs.States.{at_index}
 use Rattle.qh_plan.specs.Parts.{local_index}
 use Rattle.qh_plan.specs.Jobs.{Job}
 use Rattle.qh_plan.specs.Verdicts.{added}
-use Rattle.qh_meaning.proofs.PartLemmas.{local_below}
-use Rattle.qh_meaning.proofs.TotalLemmas.{length-added, at_added}
-use Rattle.qh_part.specs.declared.part.Part.{Part}
+use Rattle.qh_plan.proofs.PartLemmas.{local_below}
+use Rattle.qh_plan.proofs.TotalLemmas.{length-added, at_added}
+use Rattle.qh_prefix.specs.declared.part.Part.{Part}
 use Rattle.qh_range.specs.declared.side.Side.{Side}
-use Rattle.qh_part.specs.Parts.{in_part, width}
-use Rattle.qh_part.specs.declared.place.Placed.{Placed}
+use Rattle.qh_prefix.specs.Parts.{in_part, width}
+use Rattle.qh_prefix.specs.declared.place.Placed.{Placed}
 use Rattle.qh_half.specs.Halves.{Half}
 use Rattle.qh_range.specs.Sides.{IsSide, path_end, end_of, at_half, number_at}
 

@@ -8,10 +8,10 @@ use Rattle.qh_plan.specs.Jobs.{Job, IsJob, job_radices, paths, prefixes, roots, 
 use Rattle.qh_plan.specs.Ranges.{IsInRange, prefix_of}
 use Rattle.qh_plan.proofs.PathLemmas.{path_count_split, digits_split}
 use Rattle.qh_plan.proofs.RunLemmas.{IsCounted, counted_by, run_fits, range_within, place_in, prefix_in}
-use Rattle.qh_meaning.proofs.PrefixLemmas.{length-path_digits}
-use Rattle.qh_part.specs.declared.stage.Stage.TheVariants.{Prefix, Root}
-use Rattle.qh_part.specs.Stages.{stretch}
-use Rattle.qh_part.proofs.StageLemmas.{job_known, prefix_few}
+use Rattle.qh_plan.proofs.PrefixLemmas.{length-path_digits}
+use Rattle.qh_prefix.specs.declared.stage.Stage.TheVariants.{Prefix, Root}
+use Rattle.qh_prefix.specs.Stages.{stretch}
+use Rattle.qh_prefix.proofs.StageLemmas.{job_known, prefix_few}
 use Rattle.qh_prefix.specs.Checkpoints.{prefix_digits}
 use Rattle.qh_prefix.proofs.DigitLemmas.{share, some_prefix, some_share, first_digits}
 use Rattle.qh_range.specs.Sides.{root_of, root_digits}

@@ -8,18 +8,18 @@ use Rattle.qh_ring.specs.States.{ground}
 use Rattle.qh_plan.specs.Jobs.{Job, IsJob, job_radices, ranges, digits_of}
 use Rattle.qh_plan.specs.Ranges.{IsInRange, prefix_of}
 use Rattle.qh_half.specs.Halves.{Half}
-use Rattle.qh_meaning.specs.Halves.{half_operations}
-use Rattle.qh_meaning.specs.Traces.{half_step, half_after, HoldsHalf}
-use Rattle.qh_meaning.proofs.PrefixLemmas.{length-path_digits}
-use Rattle.qh_part.specs.declared.part.Part.{Part}
-use Rattle.qh_part.specs.declared.stage.Stage.TheVariants.{Prefix, Root, Suffix}
-use Rattle.qh_part.specs.Parts.{in_part, width, acts_in}
-use Rattle.qh_part.specs.declared.place.Placed.{Placed}
-use Rattle.qh_part.specs.Places.{IsPlacedIn, operations, term_counts}
-use Rattle.qh_part.specs.Runs.{IsAfter}
-use Rattle.qh_part.specs.Stages.{stage_gates, stage_radices, stretch}
-use Rattle.qh_part.proofs.PlaceLemmas.{operations_placed, length_placed}
-use Rattle.qh_part.proofs.StageLemmas.{stage_takes, stage_operations, by_stages}
+use Rattle.qh_plan.specs.Halves.{half_operations}
+use Rattle.qh_plan.specs.Traces.{half_step, half_after, HoldsHalf}
+use Rattle.qh_plan.proofs.PrefixLemmas.{length-path_digits}
+use Rattle.qh_prefix.specs.declared.part.Part.{Part}
+use Rattle.qh_prefix.specs.declared.stage.Stage.TheVariants.{Prefix, Root, Suffix}
+use Rattle.qh_prefix.specs.Parts.{in_part, width, acts_in}
+use Rattle.qh_prefix.specs.declared.place.Placed.{Placed}
+use Rattle.qh_prefix.specs.Places.{IsPlacedIn, operations, term_counts}
+use Rattle.qh_prefix.specs.Runs.{IsAfter}
+use Rattle.qh_prefix.specs.Stages.{stage_gates, stage_radices, stretch}
+use Rattle.qh_prefix.proofs.PlaceLemmas.{operations_placed, length_placed}
+use Rattle.qh_prefix.proofs.StageLemmas.{stage_takes, stage_operations, by_stages}
 use Rattle.qh_prefix.specs.Checkpoints.{IsAtPrefix, prefix_operations}
 use Rattle.qh_range.specs.declared.side.Side.{Side}
 use Rattle.qh_range.specs.Sides.{IsSide, IsAtRoot, path_end, root_digits, root_operations}

@@ -9,11 +9,11 @@ use Rattle.qh_ring.specs.States.{sum_below}
 use Rattle.qh_plan.specs.declared.verdict.Verdict.TheVariants.{Sum, Over}
 use Rattle.qh_plan.specs.Jobs.{Job, per_range, first_path}
 use Rattle.qh_plan.specs.Verdicts.{added}
-use Rattle.qh_meaning.specs.Halves.{contribution}
-use Rattle.qh_meaning.specs.Limits.{path_fits}
-use Rattle.qh_meaning.specs.Values.{sums_of, value_of, range_value}
-use Rattle.qh_meaning.proofs.RunLemmas.{added_map, sums_within, value_sum}
-use Rattle.qh_meaning.proofs.OverLemmas.{value_over}
+use Rattle.qh_plan.specs.Halves.{contribution}
+use Rattle.qh_plan.specs.MeaningLimits.{path_fits}
+use Rattle.qh_plan.specs.Values.{sums_of, value_of, range_value}
+use Rattle.qh_plan.proofs.RunValueLemmas.{added_map, sums_within, value_sum}
+use Rattle.qh_plan.proofs.OverLemmas.{value_over}
 
 -- the first k paths from `first` on fit, and these are their sums
 pub record IsSummed (j : Job) (first k : ℕ) (sums : List Omega) : Type 0 where

@@ -3,3 +3,7 @@ pub mod Results
 pub mod Steps
 pub mod Sides
 pub mod Rooms
+-- The definitions that contracts cite.
+pub mod Totals
+pub mod RunTotals
+pub mod Solved

@@ -3,7 +3,7 @@ use Rattle.std.specs.Prelude.{◌≡◌, ℕ, ◌<◌, ◌≤◌}
 use Rattle.qh_limits.specs.Limits.{max_grants}
 use Rattle.qh_plan.specs.declared.verdict.Verdict.{Verdict}
 use Rattle.qh_plan.specs.Jobs.{Job, ranges}
-use Rattle.qh_meaning.specs.Values.{range_value}
+use Rattle.qh_plan.specs.Values.{range_value}
 
 -- leave to evaluate a range
 pub record Ticket : Type 0 where

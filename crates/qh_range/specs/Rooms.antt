@@ -1,6 +1,6 @@
 -- A room for evaluations.
 use Rattle.qh_plan.specs.Jobs.{Job}
-use Rattle.qh_part.specs.declared.part.Part.TheVariants.{One, Two}
+use Rattle.qh_prefix.specs.declared.part.Part.TheVariants.{One, Two}
 use Rattle.qh_range.specs.declared.side.Side.{Side}
 use Rattle.qh_range.specs.Sides.{IsSide}
 

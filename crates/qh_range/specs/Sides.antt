@@ -8,14 +8,14 @@ use Rattle.qh_gates.specs.Evolution.{Operation}
 use Rattle.qh_plan.specs.Jobs.{Job, roots, earlier}
 use Rattle.qh_plan.specs.Paths.{path_digits}
 use Rattle.qh_plan.specs.Ranges.{prefix_of}
-use Rattle.qh_meaning.specs.Halves.{half_operations}
-use Rattle.qh_meaning.specs.Traces.{half_after, HoldsHalf}
-use Rattle.qh_part.specs.declared.part.Part.{Part}
-use Rattle.qh_part.specs.Parts.{in_part, width}
-use Rattle.qh_part.specs.declared.place.Placed.{Placed}
-use Rattle.qh_part.specs.Places.{IsPlacedIn, placed}
-use Rattle.qh_part.specs.declared.stage.Stage.TheVariants.{Root, Suffix}
-use Rattle.qh_part.specs.Stages.{stage_gates, stage_radices}
+use Rattle.qh_plan.specs.Halves.{half_operations}
+use Rattle.qh_plan.specs.Traces.{half_after, HoldsHalf}
+use Rattle.qh_prefix.specs.declared.part.Part.{Part}
+use Rattle.qh_prefix.specs.Parts.{in_part, width}
+use Rattle.qh_prefix.specs.declared.place.Placed.{Placed}
+use Rattle.qh_prefix.specs.Places.{IsPlacedIn, placed}
+use Rattle.qh_prefix.specs.declared.stage.Stage.TheVariants.{Root, Suffix}
+use Rattle.qh_prefix.specs.Stages.{stage_gates, stage_radices}
 use Rattle.qh_prefix.specs.Checkpoints.{prefix_operations}
 use Rattle.qh_half.specs.Halves.{Half}
 use Rattle.qh_range.specs.declared.side.Side.{Side}

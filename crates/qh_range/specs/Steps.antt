@@ -1,8 +1,8 @@
 -- What a range costs. A step goes once over a half.
 use Rattle.std.specs.Prelude.{ℕ, ◌+◌, ◌*◌}
 use Rattle.qh_plan.specs.Jobs.{Job, per_range}
-use Rattle.qh_part.specs.declared.stage.Stage.TheVariants.{Prefix, Root, Suffix}
-use Rattle.qh_part.specs.Stages.{stage_steps}
+use Rattle.qh_prefix.specs.declared.stage.Stage.TheVariants.{Prefix, Root, Suffix}
+use Rattle.qh_prefix.specs.Stages.{stage_steps}
 
 -- from a checkpoint: the steps of the root once, and those of the suffix for each path
 abbrev pub range_steps : Job → ℕ

@@ -7,6 +7,10 @@
 //! is read where it stands at the root: it costs no copy. Where part 1 is over, the path costs nothing in part 2. A room keeps
 //! this memory from one range to the next.
 //! It knows nothing of journals, leases or workers.
+//!
+//! `solve` answers a whole run in one thread: it evaluates the ranges one after the other, in one room and from one
+//! checkpoint a prefix value, and adds their sums in place. So it holds two numbers a bitstring beside six halves. It stops
+//! at the first range with a path that is over, and keeps no record: an interrupted run begins anew.
 #![tactic(auto)]
 
 mod answers;
@@ -15,10 +19,13 @@ mod path;
 mod result;
 mod room;
 mod side;
+mod solving;
 mod ticket;
+mod total;
 
 pub use answers::{Admit, Claim, Delivery, Sweep};
 pub use evaluation::evaluate;
 pub use result::RangeResult;
 pub use room::Room;
+pub use solving::{Solved, solve};
 pub use ticket::Ticket;

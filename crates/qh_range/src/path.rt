@@ -6,19 +6,19 @@ ghost use Rattle.qh_ring.specs.Numbers.{IsWithin, product};
 ghost use Rattle.qh_plan.specs.Jobs.{IsJob, ranges};
 ghost use Rattle.qh_plan.specs.Parts.{local_index};
 ghost use Rattle.qh_plan.specs.Verdicts.{added};
-ghost use Rattle.qh_meaning.specs.Halves.{contribution};
-ghost use Rattle.qh_meaning.specs.Limits.{are_narrow, path_fits};
-ghost use Rattle.qh_part.specs.declared.part.Part.TheVariants as Parts;
-ghost use Rattle.qh_part.specs.declared.stage.Stage.TheVariants as Stages;
-ghost use Rattle.qh_part.specs.Stages.{stage_steps};
+ghost use Rattle.qh_plan.specs.Halves.{contribution};
+ghost use Rattle.qh_plan.specs.MeaningLimits.{are_narrow, path_fits};
+ghost use Rattle.qh_prefix.specs.declared.part.Part.TheVariants as Parts;
+ghost use Rattle.qh_prefix.specs.declared.stage.Stage.TheVariants as Stages;
+ghost use Rattle.qh_prefix.specs.Stages.{stage_steps};
 ghost use Rattle.qh_plan.specs.Ranges.{IsInRange};
 ghost use Rattle.qh_range.specs.Sides.{IsSide, IsAtRoot, end_of, number_at};
 
 use crate::side::{Side, is_over, number_at, run_half};
-use qh_part::{Stage, stage_digits};
+use qh_half::Steps;
 use qh_plan::Job;
+use qh_prefix::{Stage, stage_digits};
 use qh_ring::{Omega, add_bounded, mul_checked};
-use qh_steps::Steps;
 use std::sync::ledger::Ledger;
 
 /// Adds to each sum the product of the two halves at its bitstring. It is false where one of them is too wide.

@@ -3,7 +3,7 @@ ghost use Rattle.std.specs.Prelude.{◌≡◌, ◌≤◌, ◌<◌};
 ghost use Rattle.std.specs.Arc.{arc_value};
 ghost use Rattle.qh_limits.specs.Limits.{max_grants};
 ghost use Rattle.qh_plan.specs.Jobs.{ranges};
-ghost use Rattle.qh_meaning.specs.Values.{range_value};
+ghost use Rattle.qh_plan.specs.Values.{range_value};
 ghost use Rattle.qh_range.specs.Results.{IsResult};
 
 use qh_plan::{Job, Verdict};

@@ -6,11 +6,10 @@ use crate::evaluation::{go_to_root, sum_range};
 use crate::result::RangeResult;
 use crate::side::{Side, boxed_side};
 use crate::ticket::Ticket;
-use qh_part::Part;
+use qh_half::Steps;
 use qh_plan::Job;
-use qh_prefix::{Checkpoint, make_checkpoint};
+use qh_prefix::{Checkpoint, Part, make_checkpoint};
 use qh_ring::Omega;
-use qh_steps::Steps;
 use std::alloc::{AllocError, Global};
 use std::marker::Model;
 use std::sync::Arc;
@@ -43,7 +42,7 @@ impl Room {
     ghost use Rattle.qh_ring.specs.Numbers.{nothing};
     ghost use Rattle.qh_plan.specs.Jobs.{IsJob, ranges};
     ghost use Rattle.qh_plan.specs.Ranges.{prefix_of};
-    ghost use Rattle.qh_meaning.specs.Values.{range_value};
+    ghost use Rattle.qh_plan.specs.Values.{range_value};
     ghost use Rattle.qh_range.specs.Steps.{range_steps, whole_steps};
 
     /// A room for ranges of the job. It takes four halves.

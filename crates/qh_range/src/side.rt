@@ -4,15 +4,14 @@ ghost use Rattle.std.specs.List.{AllZip};
 ghost use Rattle.qh_limits.specs.Limits.{coefficient_bits};
 ghost use Rattle.qh_ring.specs.Numbers.{IsWithin};
 ghost use Rattle.qh_ring.specs.States.{at_index};
-ghost use Rattle.qh_part.specs.Places.{IsPlacedIn, operations, term_counts};
-ghost use Rattle.qh_part.specs.Runs.{IsAfter};
+ghost use Rattle.qh_prefix.specs.Places.{IsPlacedIn, operations, term_counts};
+ghost use Rattle.qh_prefix.specs.Runs.{IsAfter};
 ghost use Rattle.qh_range.specs.Sides.{IsSide, end_of};
 
-use qh_half::Half;
-use qh_part::{Part, Placed, Stage, local_indices, part_width, place_stage, run_placed};
+use qh_half::{Half, Steps};
 use qh_plan::Job;
+use qh_prefix::{Part, Placed, Stage, local_indices, part_width, place_stage, run_placed};
 use qh_ring::Omega;
-use qh_steps::Steps;
 use std::alloc::{AllocError, Global};
 use std::sync::ledger::Ledger;
 

@@ -1,6 +1,6 @@
 //! A case of a line.
 use hex::FromHexError;
-use qh_decimal::number_of;
+use qh_text::number_of;
 use std::alloc::{AllocError, Global};
 
 /// What is to be read.

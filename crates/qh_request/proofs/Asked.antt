@@ -4,11 +4,11 @@ use Rattle.qh_ring.specs.declared.number.Omega.{Omega}
 use Rattle.qh_plan.specs.declared.verdict.Verdict.{Verdict}
 use Rattle.qh_plan.specs.declared.verdict.Verdict.TheVariants.{Sum}
 use Rattle.qh_plan.specs.Jobs.{Job, IsJob}
-use Rattle.qh_meaning.specs.Values.{run_value}
-use Rattle.qh_meaning.specs.Asked.{asked}
-use Rattle.qh_meaning.specs.Laws.{NoneOver}
-use Rattle.qh_meaning.proofs.OverLemmas.{names_least}
-use Rattle.qh_meaning.proofs.RunLemmas.{AllFit, has_cut, run_value_is}
+use Rattle.qh_plan.specs.Values.{run_value}
+use Rattle.qh_plan.specs.Asked.{asked}
+use Rattle.qh_plan.specs.Laws.{NoneOver}
+use Rattle.qh_plan.proofs.OverLemmas.{names_least}
+use Rattle.qh_plan.proofs.RunValueLemmas.{AllFit, has_cut, run_value_is}
 use Rattle.qh_words.specs.declared.options.Options.{Options}
 use Rattle.qh_request.specs.Jobs.{keeping}
 

@@ -17,7 +17,7 @@ use Rattle.qh_plan.specs.declared.fault.PlanFault.TheVariants.{PartText, NoSuchQ
 use Rattle.qh_disk.specs.Disk.{Face}
 use Rattle.qh_words.specs.declared.options.Options.{Options}
 use Rattle.qh_words.specs.declared.size.GenSize.{GenSize}
-use Rattle.qh_tell.specs.Seen.{Seen, Rises}
+use Rattle.qh_request.specs.Seen.{Seen, Rises}
 use Rattle.qh_request.specs.Inputs.{IsCircuitFile, IsBitsFile, IsRead, IsGenerated, IsInput, HasInput, first_indices}
 use Rattle.qh_planner.specs.Cuts.{Asked, cost, first_qubits}
 use Rattle.qh_planner.specs.Choice.{IsBestCut}
@@ -26,13 +26,13 @@ use Rattle.qh_request.specs.Answer.{IsWholeAnswer, IsAnswerBy}
 use Rattle.qh_request.specs.Jobs.{IsPlannedJob, Takes, keeping}
 use Rattle.qh_plan.specs.declared.verdict.Verdict.TheVariants.{Over}
 use Rattle.qh_request.specs.Refusals.{PartRefuses, PlanRefusesBy, PlanRefuses, IsTooDeep, CircuitRefuses, FilesHold, FilesRefuse, SizeRefuses, RefusesBy, Refuses, FilesReading, ReadingBy, Reading, SourceRises, RefusesAll, IsOfWords}
-use Rattle.qh_tell.specs.declared.stop.Refusal.{Refusal}
-use Rattle.qh_tell.specs.declared.stop.Refusal.TheVariants.{CircuitTooLong, CircuitLine, BitsTooLong, BitsLine, Plan, ProbTooDeep, NoCut}
-use Rattle.qh_tell.specs.declared.stop.Input.TheVariants.{OfCircuit, OfBits}
-use Rattle.qh_tell.specs.declared.stop.Stop.{Stop}
-use Rattle.qh_tell.specs.declared.stop.Stop.TheVariants.{Usage, Refused, OverflowGate, OverflowPath, ReadFault, DiskFault, WriteFault, Memory, Journal}
+use Rattle.qh_request.specs.declared.stop.Refusal.{Refusal}
+use Rattle.qh_request.specs.declared.stop.Refusal.TheVariants.{CircuitTooLong, CircuitLine, BitsTooLong, BitsLine, Plan, ProbTooDeep, NoCut}
+use Rattle.qh_request.specs.declared.stop.Input.TheVariants.{OfCircuit, OfBits}
+use Rattle.qh_request.specs.declared.stop.Stop.{Stop}
+use Rattle.qh_request.specs.declared.stop.Stop.TheVariants.{Usage, Refused, OverflowGate, OverflowPath, ReadFault, DiskFault, WriteFault, Memory, Journal}
 use Rattle.qh_request.specs.Request.{Prints, OverflowsOn, IsRun}
-use Rattle.qh_tell.specs.Stops.{status_of, stop_of}
+use Rattle.qh_request.specs.Stops.{status_of, stop_of}
 use Rattle.qh_request.specs.Outcomes.{MayStopBy}
 use Rattle.qh_request.proofs.Words.{words_of_plan}
 use Rattle.qh_request.proofs.Strings.{asked_indices}

@@ -6,24 +6,24 @@ use Rattle.qh_gates.specs.Circuits.{Circuit, total_weight}
 use Rattle.qh_plan.specs.Jobs.{Job}
 use Rattle.qh_plan.specs.declared.verdict.Verdict.{Verdict}
 use Rattle.qh_disk.specs.Disk.{Face}
-use Rattle.qh_record.specs.Moments.{BeginsTrue, IsUnwritten}
-use Rattle.qh_record.specs.Refusing.{Accepts}
+use Rattle.qh_slots.specs.Moments.{BeginsTrue, IsUnwritten}
+use Rattle.qh_slots.specs.Refusing.{Accepts}
 use Rattle.qh_words.specs.declared.options.Options.{Options}
 use Rattle.qh_words.specs.declared.size.GenSize.{GenSize}
-use Rattle.qh_tell.specs.Seen.{Seen, Rises}
+use Rattle.qh_request.specs.Seen.{Seen, Rises}
 use Rattle.qh_request.specs.Inputs.{HasInput}
 use Rattle.qh_request.specs.Jobs.{Asks, Takes, keeping}
 use Rattle.qh_request.specs.Refusals.{Refuses, FilesReading, ReadingBy, Reading, SourceRises, RefusesAll, JournalRefuses}
 use Rattle.qh_request.specs.Request.{Prints, PrintsAsked, RunIsWhole, EndsWholeBy, FaultCame, FaultFirst, Answers, IsRun}
 use Rattle.qh_request.specs.Parts.{Ended}
-use Rattle.qh_tell.specs.Stops.{status_of}
+use Rattle.qh_request.specs.Stops.{status_of}
 use Rattle.qh_request.specs.Outcomes.{MayStopBy, MayStop, Stops}
-use Rattle.qh_tell.specs.declared.stop.Refusal.{Refusal}
-use Rattle.qh_tell.specs.declared.stop.Refusal.TheVariants.{CircuitTooLong, CircuitLine, BitsTooLong, BitsLine, Plan, ProbTooDeep, NoCut}
-use Rattle.qh_tell.specs.declared.stop.JournalRefusal.{JournalRefusal}
-use Rattle.qh_tell.specs.declared.stop.Input.TheVariants.{OfCircuit, OfBits}
-use Rattle.qh_tell.specs.declared.stop.Stop.{Stop}
-use Rattle.qh_tell.specs.declared.stop.Stop.TheVariants.{Usage, Refused, OverflowGate, OverflowPath, ReadFault, DiskFault, WriteFault, Memory, Journal}
+use Rattle.qh_request.specs.declared.stop.Refusal.{Refusal}
+use Rattle.qh_request.specs.declared.stop.Refusal.TheVariants.{CircuitTooLong, CircuitLine, BitsTooLong, BitsLine, Plan, ProbTooDeep, NoCut}
+use Rattle.qh_request.specs.declared.stop.JournalRefusal.{JournalRefusal}
+use Rattle.qh_request.specs.declared.stop.Input.TheVariants.{OfCircuit, OfBits}
+use Rattle.qh_request.specs.declared.stop.Stop.{Stop}
+use Rattle.qh_request.specs.declared.stop.Stop.TheVariants.{Usage, Refused, OverflowGate, OverflowPath, ReadFault, DiskFault, WriteFault, Memory, Journal}
 use Rattle.qh_request.proofs.Causes.{refused_answer, words_answer, printed_refused, printed_words, accepted_not_refused, planned_part_not_refused, amplitudes_not_refused, shallow_not_refused, reads, none_some}
 use Rattle.qh_request.proofs.Inputs.{same_job}
 use Rattle.qh_request.proofs.Journals.{accepts_not_refuses}

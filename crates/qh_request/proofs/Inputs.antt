@@ -6,7 +6,7 @@ use Rattle.qh_bits.specs.Texts.{bits_of}
 use Rattle.qh_plan.specs.Jobs.{Job}
 use Rattle.qh_words.specs.declared.options.Options.{Options}
 use Rattle.qh_words.specs.declared.size.GenSize.{GenSize}
-use Rattle.qh_tell.specs.Seen.{Seen}
+use Rattle.qh_request.specs.Seen.{Seen}
 use Rattle.qh_request.specs.Inputs.{IsCircuitFile, IsBitsFile, IsInput, HasInput, first_indices}
 use Rattle.qh_request.specs.Jobs.{Asks, Takes, IsPlannedJob}
 use Rattle.qh_request.proofs.Causes.{read_told, same_circuit, same_bits, one_job}

@@ -8,19 +8,19 @@ use Rattle.qh_disk.specs.Moments.{Runs}
 use Rattle.qh_disk.proofs.Moments.{runs_same}
 use Rattle.qh_slots.specs.Attaching.{first_refusal, first_refusal1, head_refusal}
 use Rattle.qh_slots.specs.declared.fault.AttachFault.TheVariants.{Empty}
-use Rattle.qh_record.specs.Record.{Keeping, counted}
-use Rattle.qh_record.specs.Moments.{IsReadOnly, IsUnwritten, StaysStable}
-use Rattle.qh_record.specs.Refusing.{Accepts}
-use Rattle.qh_record.specs.Keeps.{KeepsJournal}
-use Rattle.qh_record.proofs.StillLemmas.{still_keeps, read_only_same}
+use Rattle.qh_slots.specs.Record.{Keeping, counted}
+use Rattle.qh_slots.specs.Moments.{IsReadOnly, IsUnwritten, StaysStable}
+use Rattle.qh_slots.specs.Refusing.{Accepts}
+use Rattle.qh_slots.specs.Keeps.{KeepsJournal}
+use Rattle.qh_slots.proofs.StillLemmas.{still_keeps, read_only_same}
 use Rattle.qh_migrate.specs.Faults.{attach_of}
 use Rattle.qh_words.specs.declared.options.Options.{Options}
-use Rattle.qh_tell.specs.Seen.{Seen}
+use Rattle.qh_request.specs.Seen.{Seen}
 use Rattle.qh_request.specs.Jobs.{Asks, Takes, keeping}
 use Rattle.qh_request.specs.Refusals.{JournalRefuses}
 use Rattle.qh_request.specs.Parts.{Moves}
-use Rattle.qh_tell.specs.declared.stop.JournalRefusal.{JournalRefusal}
-use Rattle.qh_tell.specs.declared.stop.JournalRefusal.TheVariants.{OfJournal, OfOld}
+use Rattle.qh_request.specs.declared.stop.JournalRefusal.{JournalRefusal}
+use Rattle.qh_request.specs.declared.stop.JournalRefusal.TheVariants.{OfJournal, OfOld}
 use Rattle.qh_request.proofs.Inputs.{same_job}
 
 -- ---- refusals

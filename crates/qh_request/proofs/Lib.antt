@@ -10,3 +10,5 @@ pub mod Runs
 pub mod Tables
 mod Unique
 pub mod FirstIndices
+-- How what a sink was told adds up.
+pub mod Saying

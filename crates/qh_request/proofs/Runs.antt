@@ -6,20 +6,20 @@ use Rattle.qh_gates.specs.Circuits.{Circuit}
 use Rattle.qh_plan.specs.declared.verdict.Verdict.TheVariants.{Sum, Over}
 use Rattle.qh_plan.specs.Jobs.{Job}
 use Rattle.qh_disk.specs.Disk.{Face}
-use Rattle.qh_record.specs.Record.{Keeping}
-use Rattle.qh_record.specs.Moments.{BeginsTrue}
+use Rattle.qh_slots.specs.Record.{Keeping}
+use Rattle.qh_slots.specs.Moments.{BeginsTrue}
 use Rattle.qh_words.specs.declared.options.Options.{Options}
 use Rattle.qh_words.specs.declared.size.GenSize.{GenSize}
-use Rattle.qh_tell.specs.Seen.{Seen, Rises}
+use Rattle.qh_request.specs.Seen.{Seen, Rises}
 use Rattle.qh_request.specs.Inputs.{IsInput}
 use Rattle.qh_request.specs.Jobs.{keeping, job_strings}
 use Rattle.qh_request.specs.Answer.{IsJobText}
 use Rattle.qh_request.specs.Indexed.{IsIndexedBy, IsCutText}
 use Rattle.qh_request.specs.Request.{Prints, BreaksOff, RunIsWhole, EndsWholeBy, EndsEarly}
 use Rattle.qh_request.specs.Parts.{UncutMayStop, CutMayStop, AnswerMayStop, JobMayStop, AnswerMoves, FilesMayStop, InputMayStop, Moves, Ended}
-use Rattle.qh_tell.specs.Stops.{status_of}
-use Rattle.qh_tell.specs.declared.stop.Stop.{Stop}
-use Rattle.qh_tell.specs.declared.stop.Stop.TheVariants.{Usage, Refused, OverflowGate, OverflowPath, ReadFault, DiskFault, WriteFault, Memory, Journal}
+use Rattle.qh_request.specs.Stops.{status_of}
+use Rattle.qh_request.specs.declared.stop.Stop.{Stop}
+use Rattle.qh_request.specs.declared.stop.Stop.TheVariants.{Usage, Refused, OverflowGate, OverflowPath, ReadFault, DiskFault, WriteFault, Memory, Journal}
 use Rattle.qh_request.proofs.Causes.{taken_job}
 use Rattle.qh_request.proofs.Strings.{asked_named, named_by, asked_text}
 

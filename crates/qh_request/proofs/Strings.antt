@@ -8,8 +8,8 @@ use Rattle.std.specs.Option.{option_map}
 use Rattle.std.specs.Fmt.{signed_decimal}
 use Rattle.std.proofs.lemmas.List.Elements.{All-head, All-tail}
 use Rattle.std.proofs.lemmas.Bool.{false≢true, eqb-true}
-use Rattle.qh_lines.specs.Lines.{content_of}
-use Rattle.qh_lines.specs.Words.{trimmed}
+use Rattle.qh_text.specs.Lines.{content_of}
+use Rattle.qh_text.specs.LineWords.{trimmed}
 use Rattle.qh_bits.specs.Strings.{fault_of}
 use Rattle.qh_bits.specs.Texts.{bits_of, answer, faults_in, strings_in, indices_in, strings_of}
 use Rattle.qh_bits.specs.declared.faults.BitsFault.{BitsFault}
@@ -22,8 +22,8 @@ use Rattle.qh_gates.specs.Circuits.{Circuit, total_weight}
 use Rattle.qh_gates.specs.Evolution.{uncut}
 use Rattle.qh_plan.specs.Jobs.{Job, IsJob}
 use Rattle.qh_plan.specs.declared.verdict.Verdict.TheVariants.{Sum}
-use Rattle.qh_meaning.specs.Values.{run_value}
-use Rattle.qh_meaning.specs.Asked.{asked}
+use Rattle.qh_plan.specs.Values.{run_value}
+use Rattle.qh_plan.specs.Asked.{asked}
 use Rattle.qh_text.specs.Bitstrings.{index_of, bits_text, is_bitstring}
 use Rattle.qh_text.specs.Words.{word_of}
 use Rattle.qh_text.proofs.BitLemmas.{index_of_string, string_of_index}
@@ -36,7 +36,7 @@ use Rattle.qh_print.specs.Output.{IsText, value_line}
 use Rattle.qh_print.proofs.ValueLemmas.{one_canon}
 use Rattle.qh_words.specs.declared.options.Options.{Options}
 use Rattle.qh_words.specs.declared.size.GenSize.{GenSize}
-use Rattle.qh_tell.specs.Seen.{Seen}
+use Rattle.qh_request.specs.Seen.{Seen}
 use Rattle.qh_request.specs.Inputs.{IsInput, asked_strings}
 use Rattle.qh_request.specs.Lines.{AreLines, value_words, AreProbabilities, prob_words}
 use Rattle.qh_disk.specs.Disk.{Face}

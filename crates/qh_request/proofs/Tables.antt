@@ -10,12 +10,12 @@ use Rattle.qh_planner.specs.Spelling.{table_text}
 use Rattle.qh_planner.specs.declared.row.CutRow.{CutRow}
 use Rattle.qh_words.specs.declared.options.Options.{Options}
 use Rattle.qh_words.specs.declared.size.GenSize.{GenSize}
-use Rattle.qh_tell.specs.Seen.{Seen, seen}
-use Rattle.qh_tell.specs.Stops.{message_of, Says}
-use Rattle.qh_tell.proofs.Saying.{says_whole, says_append, says_stop}
-use Rattle.qh_tell.specs.declared.stop.Refusal.TheVariants.{CircuitTooLong, CircuitLine, BitsTooLong, BitsLine, Plan, ProbTooDeep, NoCut}
-use Rattle.qh_tell.specs.declared.stop.Stop.{Stop}
-use Rattle.qh_tell.specs.declared.stop.Stop.TheVariants.{Usage, Refused, OverflowGate, OverflowPath, ReadFault, DiskFault, WriteFault, Memory, Journal}
+use Rattle.qh_request.specs.Seen.{Seen, seen}
+use Rattle.qh_request.specs.Stops.{message_of, Says}
+use Rattle.qh_request.proofs.Saying.{says_whole, says_append, says_stop}
+use Rattle.qh_request.specs.declared.stop.Refusal.TheVariants.{CircuitTooLong, CircuitLine, BitsTooLong, BitsLine, Plan, ProbTooDeep, NoCut}
+use Rattle.qh_request.specs.declared.stop.Stop.{Stop}
+use Rattle.qh_request.specs.declared.stop.Stop.TheVariants.{Usage, Refused, OverflowGate, OverflowPath, ReadFault, DiskFault, WriteFault, Memory, Journal}
 use Rattle.qh_request.specs.Inputs.{IsInput}
 use Rattle.qh_request.specs.Chosen.{asks_auto, IsTableBy}
 use Rattle.qh_request.specs.Parts.{FilesMayStop, InputMayStop, UncutMayStop, CutMayStop, AnswerMayStop}

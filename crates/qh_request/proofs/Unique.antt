@@ -12,7 +12,7 @@ use Rattle.qh_text.specs.Bitstrings.{index_of}
 use Rattle.qh_disk.specs.Disk.{Face}
 use Rattle.qh_slots.specs.Stands.{Slots, slot_at}
 use Rattle.qh_slots.specs.Attaching.{slots_of}
-use Rattle.qh_record.specs.Record.{Keeping, values, slots_after, IsEnd}
+use Rattle.qh_slots.specs.Record.{Keeping, values, slots_after, IsEnd}
 use Rattle.qh_words.specs.declared.options.Options.{Options}
 use Rattle.qh_words.specs.declared.size.GenSize.{GenSize}
 use Rattle.qh_request.specs.Jobs.{keeping}

@@ -6,13 +6,13 @@ use Rattle.qh_ring.specs.declared.number.Omega.{Omega}
 use Rattle.qh_plan.specs.declared.verdict.Verdict.TheVariants.{Sum}
 use Rattle.qh_plan.specs.Jobs.{Job, crossing, ranges}
 use Rattle.qh_plan.specs.Verdicts.{total}
-use Rattle.qh_meaning.specs.Asked.{asked}
-use Rattle.qh_meaning.specs.Laws.{NoneOver}
+use Rattle.qh_plan.specs.Asked.{asked}
+use Rattle.qh_plan.specs.Laws.{NoneOver}
 use Rattle.qh_text.specs.Bitstrings.{index_of}
 use Rattle.qh_text.specs.Words.{word_of}
 use Rattle.qh_disk.specs.Disk.{Face}
 use Rattle.qh_slots.specs.Stands.{Slots, slot_at}
-use Rattle.qh_record.specs.Record.{IsEnd, IsFull}
+use Rattle.qh_slots.specs.Record.{IsEnd, IsFull}
 use Rattle.qh_words.specs.declared.options.Options.{Options}
 use Rattle.qh_words.specs.declared.size.GenSize.{GenSize}
 use Rattle.qh_limits.specs.Limits.{max_uncut_qubits, max_weight}

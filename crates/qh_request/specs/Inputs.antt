@@ -12,7 +12,7 @@ use Rattle.qh_bits.specs.declared.faults.BitsWhy.{BitsWhy}
 use Rattle.qh_gen.specs.Grids.{generated}
 use Rattle.qh_words.specs.declared.size.GenSize.{GenSize}
 use Rattle.qh_io.specs.Reading.{IsReadWhole}
-use Rattle.qh_tell.specs.Seen.{Seen}
+use Rattle.qh_request.specs.Seen.{Seen}
 
 -- the bytes of a circuit file are accepted as this circuit, with the gates up to time T
 pub record IsCircuitFile (T : ℕ) (c : Circuit) (bytes : List ℕ) : Type 0 where

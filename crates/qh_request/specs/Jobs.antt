@@ -5,10 +5,10 @@ use Rattle.qh_text.specs.Bitstrings.{bits_text}
 use Rattle.qh_gates.specs.Circuits.{Circuit}
 use Rattle.qh_plan.specs.Jobs.{Job}
 use Rattle.qh_plan.specs.Plans.{first_fault, job_of}
-use Rattle.qh_record.specs.Record.{Keeping}
+use Rattle.qh_slots.specs.Record.{Keeping}
 use Rattle.qh_words.specs.Request.{options_of}
 use Rattle.qh_words.specs.declared.options.Options.{Options}
-use Rattle.qh_tell.specs.Seen.{Seen}
+use Rattle.qh_request.specs.Seen.{Seen}
 use Rattle.qh_request.specs.Inputs.{IsInput, HasInput}
 use Rattle.qh_request.specs.Chosen.{IsPart}
 

@@ -9,3 +9,6 @@ pub mod Refusals
 pub mod Request
 pub mod Outcomes
 pub mod Parts
+-- What a call tells of its sources and sinks, how it stops, and its messages.
+pub mod Seen
+pub mod Stops

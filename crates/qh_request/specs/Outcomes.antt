@@ -5,15 +5,15 @@ use Rattle.qh_gates.specs.Circuits.{Circuit}
 use Rattle.qh_plan.specs.Jobs.{Job}
 use Rattle.qh_disk.specs.Disk.{Face}
 use Rattle.qh_words.specs.declared.options.Options.{Options}
-use Rattle.qh_tell.specs.Seen.{Seen, Rises}
-use Rattle.qh_tell.specs.declared.stop.Input.TheVariants.{OfCircuit, OfBits}
-use Rattle.qh_tell.specs.declared.stop.Stop.{Stop}
-use Rattle.qh_tell.specs.declared.stop.Stop.TheVariants.{Usage, Refused, OverflowGate, OverflowPath, ReadFault, DiskFault, WriteFault, Memory, Journal}
-use Rattle.qh_tell.specs.Stops.{status_of, message_of, Says}
+use Rattle.qh_request.specs.Seen.{Seen, Rises}
+use Rattle.qh_request.specs.declared.stop.Input.TheVariants.{OfCircuit, OfBits}
+use Rattle.qh_request.specs.declared.stop.Stop.{Stop}
+use Rattle.qh_request.specs.declared.stop.Stop.TheVariants.{Usage, Refused, OverflowGate, OverflowPath, ReadFault, DiskFault, WriteFault, Memory, Journal}
+use Rattle.qh_request.specs.Stops.{status_of, message_of, Says}
 use Rattle.qh_planner.specs.Cuts.{IsTable}
 use Rattle.qh_planner.specs.Spelling.{table_text}
 use Rattle.qh_planner.specs.declared.row.CutRow.{CutRow}
-use Rattle.qh_tell.specs.declared.stop.Refusal.TheVariants.{CircuitTooLong, CircuitLine, BitsTooLong, BitsLine}
+use Rattle.qh_request.specs.declared.stop.Refusal.TheVariants.{CircuitTooLong, CircuitLine, BitsTooLong, BitsLine}
 use Rattle.qh_request.specs.Chosen.{asks_auto, cut_asked}
 use Rattle.qh_request.specs.Inputs.{IsCircuitFile, IsInput}
 use Rattle.qh_request.specs.Jobs.{Takes, keeping}

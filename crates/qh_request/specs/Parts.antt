@@ -9,21 +9,21 @@ use Rattle.qh_plan.specs.declared.fault.PlanFault.TheVariants.{UncutTooWide as W
 use Rattle.qh_plan.specs.declared.verdict.Verdict.TheVariants.{Over}
 use Rattle.qh_disk.specs.Disk.{Face}
 use Rattle.qh_disk.specs.Moments.{Runs}
-use Rattle.qh_record.specs.Record.{Keeping}
-use Rattle.qh_record.specs.Moments.{IsUnwritten, IsReadOnly}
-use Rattle.qh_record.specs.Keeps.{KeepsJournal}
+use Rattle.qh_slots.specs.Record.{Keeping}
+use Rattle.qh_slots.specs.Moments.{IsUnwritten, IsReadOnly}
+use Rattle.qh_slots.specs.Keeps.{KeepsJournal}
 use Rattle.qh_words.specs.declared.options.Options.{Options}
 use Rattle.qh_words.specs.declared.size.GenSize.{GenSize}
-use Rattle.qh_tell.specs.Seen.{Seen, Rises}
+use Rattle.qh_request.specs.Seen.{Seen, Rises}
 use Rattle.qh_request.specs.Chosen.{is_auto, NoneAllowed}
 use Rattle.qh_request.specs.Inputs.{IsCircuitFile, IsFaultyCircuit, AreFaultyBits}
 use Rattle.qh_request.specs.Jobs.{IsPlannedJob, Takes, keeping}
 use Rattle.qh_request.specs.Refusals.{PlanRefusesBy, JournalRefuses, DisksRise}
 use Rattle.qh_request.specs.Request.{IsRun, RunIsWhole, EndsWholeBy}
-use Rattle.qh_tell.specs.declared.stop.Refusal.TheVariants.{CircuitTooLong, CircuitLine, BitsTooLong, BitsLine, Plan, ProbTooDeep, NoCut}
-use Rattle.qh_tell.specs.declared.stop.Input.TheVariants.{OfCircuit, OfBits}
-use Rattle.qh_tell.specs.declared.stop.Stop.{Stop}
-use Rattle.qh_tell.specs.declared.stop.Stop.TheVariants.{Refused, OverflowGate, OverflowPath, ReadFault, DiskFault, Memory, Journal}
+use Rattle.qh_request.specs.declared.stop.Refusal.TheVariants.{CircuitTooLong, CircuitLine, BitsTooLong, BitsLine, Plan, ProbTooDeep, NoCut}
+use Rattle.qh_request.specs.declared.stop.Input.TheVariants.{OfCircuit, OfBits}
+use Rattle.qh_request.specs.declared.stop.Stop.{Stop}
+use Rattle.qh_request.specs.declared.stop.Stop.TheVariants.{Refused, OverflowGate, OverflowPath, ReadFault, DiskFault, Memory, Journal}
 
 -- what a call that reads the circuit stops with
 abbrev pub CircuitMayStop : ℕ → Option (List ℕ) → Type 0 → Stop → Type 0

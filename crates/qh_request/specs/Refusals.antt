@@ -7,20 +7,20 @@ use Rattle.qh_plan.specs.Plans.{first_fault}
 use Rattle.qh_plan.specs.Jobs.{Job}
 use Rattle.qh_plan.specs.declared.fault.PlanFault.{PlanFault}
 use Rattle.qh_plan.specs.declared.fault.PlanFault.TheVariants.{PartText, PrefixRoot, PrefixValue, UncutTooWide as Wide, Memory as PlanMemory}
-use Rattle.qh_counts.specs.Counts.{Rose}
+use Rattle.qh_limits.specs.Counts.{Rose}
 use Rattle.qh_disk.specs.Disk.{Face}
-use Rattle.qh_record.specs.Record.{Keeping}
-use Rattle.qh_record.specs.Refusing.{RefusesJournal, RefusesOld}
+use Rattle.qh_slots.specs.Record.{Keeping}
+use Rattle.qh_slots.specs.Refusing.{RefusesJournal, RefusesOld}
 use Rattle.qh_migrate.specs.Faults.{attach_of}
 use Rattle.qh_words.specs.declared.options.Options.{Options}
 use Rattle.qh_words.specs.declared.size.GenSize.{GenSize}
-use Rattle.qh_tell.specs.Seen.{Seen, Rises}
+use Rattle.qh_request.specs.Seen.{Seen, Rises}
 use Rattle.qh_request.specs.Chosen.{is_auto, asks_auto, HasNoCut}
 use Rattle.qh_request.specs.Inputs.{IsCircuitFile, IsBitsFile, IsFaultyCircuit, AreFaultyBits, circuit_by, first_indices}
-use Rattle.qh_tell.specs.declared.stop.JournalRefusal.{JournalRefusal}
-use Rattle.qh_tell.specs.declared.stop.JournalRefusal.TheVariants.{OfJournal, OfOld}
-use Rattle.qh_tell.specs.declared.stop.Refusal.{Refusal}
-use Rattle.qh_tell.specs.declared.stop.Refusal.TheVariants.{CircuitTooLong, CircuitLine, BitsTooLong, BitsLine, Plan, ProbTooDeep, NoCut}
+use Rattle.qh_request.specs.declared.stop.JournalRefusal.{JournalRefusal}
+use Rattle.qh_request.specs.declared.stop.JournalRefusal.TheVariants.{OfJournal, OfOld}
+use Rattle.qh_request.specs.declared.stop.Refusal.{Refusal}
+use Rattle.qh_request.specs.declared.stop.Refusal.TheVariants.{CircuitTooLong, CircuitLine, BitsTooLong, BitsLine, Plan, ProbTooDeep, NoCut}
 
 -- The text of part 1 is faulty, or else the plan has this first fault. The cheapest cut is an allowed one.
 abbrev pub PartRefuses : Bool → List ℕ → Options → Circuit → List ℕ → PlanFault → Type 0

@@ -2,28 +2,28 @@
 use Rattle.std.specs.Prelude.{◌≡◌, ℕ, ◌<◌, ◌≤◌, ◌⊎◌, true, false, List, length, Some, None, Option, IfSome, IsSomeAnd, take}
 use Rattle.std.specs.Io.KnownBytes.{Appends}
 use Rattle.qh_limits.specs.Limits.{max_uncut_qubits, max_weight}
-use Rattle.qh_counts.specs.Counts.{RoseBy}
+use Rattle.qh_limits.specs.Counts.{RoseBy}
 use Rattle.qh_gates.specs.Circuits.{Circuit, total_weight}
 use Rattle.qh_gates.specs.Evolution.{IsUncutOver}
 use Rattle.qh_plan.specs.Jobs.{Job}
 use Rattle.qh_plan.specs.Verdicts.{total}
 use Rattle.qh_plan.specs.declared.verdict.Verdict.{Verdict}
 use Rattle.qh_plan.specs.declared.verdict.Verdict.TheVariants.{Over}
-use Rattle.qh_meaning.specs.Values.{run_value}
+use Rattle.qh_plan.specs.Values.{run_value}
 use Rattle.qh_disk.specs.Disk.{Face}
 use Rattle.qh_slots.specs.Stands.{Slots, slot_at}
-use Rattle.qh_record.specs.Record.{Keeping, slots_before, count_bare, IsEnd, IsFull}
-use Rattle.qh_record.specs.Moments.{BeginsTrue}
-use Rattle.qh_record.specs.Keeps.{IsWhole}
-use Rattle.qh_record.specs.Refusing.{Accepts}
+use Rattle.qh_slots.specs.Record.{Keeping, slots_before, count_bare, IsEnd, IsFull}
+use Rattle.qh_slots.specs.Moments.{BeginsTrue}
+use Rattle.qh_slots.specs.Keeps.{IsWhole}
+use Rattle.qh_slots.specs.Refusing.{Accepts}
 use Rattle.qh_words.specs.declared.options.Options.{Options}
-use Rattle.qh_tell.specs.Seen.{Seen, Rises}
+use Rattle.qh_request.specs.Seen.{Seen, Rises}
 use Rattle.qh_request.specs.Inputs.{IsInput, HasInput, asked_strings}
 use Rattle.qh_request.specs.Jobs.{Asks, Takes, keeping, job_strings}
 use Rattle.qh_request.specs.Answer.{IsAnswer, IsJobText}
 use Rattle.qh_request.specs.Refusals.{Refuses, RefusesAll, SourceRises, JournalRefuses, DisksRise}
-use Rattle.qh_tell.specs.declared.stop.Refusal.{Refusal}
-use Rattle.qh_tell.specs.declared.stop.JournalRefusal.{JournalRefusal}
+use Rattle.qh_request.specs.declared.stop.Refusal.{Refusal}
+use Rattle.qh_request.specs.declared.stop.JournalRefusal.{JournalRefusal}
 
 -- a status with which the whole run was computed: the answer was written, or it is over, or the output failed
 abbrev pub RunIsWhole : ℕ → Type 0

@@ -1,22 +1,22 @@
 //! Takes the circuit and the basis indices of a request.
 ghost use Rattle.std.specs.Prelude.{◌≡◌, ◌≤◌, ◌<◌, ◌^◌, ℕ, List, Some, IfOk, IfErr, IfSome, length, All, min};
 ghost use Rattle.qh_limits.specs.Limits.{max_qubits, max_bitstrings};
-ghost use Rattle.qh_counts.specs.Counts.{Rose};
+ghost use Rattle.qh_limits.specs.Counts.{Rose};
 ghost use Rattle.qh_io.specs.Reading.{IsReadWhole};
 ghost use Rattle.qh_plan.specs.Plans.{AreBits};
 ghost use Rattle.qh_words.specs.Size.{IsGenSize};
 ghost use Rattle.qh_words.specs.declared.size.GenSize.{GenSize as Size};
-ghost use Rattle.qh_tell.specs.Seen.{seen};
+ghost use Rattle.qh_request.specs.Seen.{seen};
 ghost use Rattle.qh_request.specs.Inputs.{IsCircuitFile, IsBitsFile, IsRead, IsGenerated, IsInput, first_indices};
 ghost use Rattle.qh_request.specs.Parts.{CircuitMayStop, BitsMayStop, FilesMayStop, InputMayStop};
 
+use crate::{Input, Refusal, Stop};
 use qh_bits::{BitsFault, read_bits};
 use qh_circuit::{CircuitFault, read_circuit};
 use qh_gates::Circuit;
 use qh_gen::generate;
 use qh_io::{ReadAllFault, Source, read_all};
 use qh_limits::{MAX_BITS_BYTES, MAX_CIRCUIT_BYTES};
-use qh_tell::{Input, Refusal, Stop};
 use qh_words::{GenSize, Options};
 use std::alloc::{AllocError, Global};
 

@@ -3,17 +3,17 @@ use Rattle.std.proofs.Common.{◌≡◌, ◌≢◌, ℕ, ◌+◌, ◌<◌, ◌�
 use Rattle.std.specs.Prelude.{IsSome, IsSomeAnd, IsTrue}
 use Rattle.std.specs.Bool.{OnTrue, OnFalse}
 use Rattle.std.proofs.lemmas.List.{length-set}
-use Rattle.qh_counts.proofs.Chains.{rose_before}
+use Rattle.qh_limits.proofs.Chains.{rose_before}
 use Rattle.qh_plan.specs.Jobs.{Job}
 use Rattle.qh_disk.specs.Disk.{Face}
 use Rattle.qh_disk.proofs.Moments.{runs_on, lasts_on}
-use Rattle.qh_record.specs.Moments.{GoesOn}
+use Rattle.qh_slots.specs.Moments.{GoesOn}
 use Rattle.qh_parts.proofs.PartLemmas.{spares_on, made_on}
 use Rattle.qh_lease.specs.declared.lease.Lease.{Lease}
 use Rattle.qh_lease.specs.declared.lease.Lease.TheVariants.{Fresh, Out, Returned, Acked}
 use Rattle.qh_lease.specs.declared.totals.Totals.{Totals}
 use Rattle.qh_lease.specs.Lease.{lease_at, is_acked, NonePasses}
-use Rattle.qh_replay.specs.Replay.{is_open}
+use Rattle.qh_core.specs.Replay.{is_open}
 use Rattle.qh_journal.specs.Calls.{Went}
 use Rattle.qh_range.specs.Results.{Ticket, RangeResult}
 use Rattle.qh_range.specs.declared.answers.Claim.{Claim}

@@ -6,25 +6,25 @@ use Rattle.std.proofs.lemmas.List.{get_or-map, length-map}
 use Rattle.qh_plan.specs.declared.verdict.Verdict.{Verdict}
 use Rattle.qh_plan.specs.Jobs.{Job, IsJob, ranges}
 use Rattle.qh_plan.specs.Verdicts.{total}
-use Rattle.qh_meaning.specs.Values.{range_value}
+use Rattle.qh_plan.specs.Values.{range_value}
 use Rattle.qh_disk.specs.Disk.{Face, Reads}
 use Rattle.qh_disk.specs.Moments.{EachImage}
 use Rattle.qh_slots.specs.Stands.{Slots, slot_at, Stands, Holds}
-use Rattle.qh_record.specs.Record.{Extends, IsFull}
-use Rattle.qh_record.specs.Moments.{GoesOn}
+use Rattle.qh_slots.specs.Record.{Extends, IsFull}
+use Rattle.qh_slots.specs.Moments.{GoesOn}
 use Rattle.qh_journal.specs.Calls.{JournalView, IsJournal, Went}
 use Rattle.qh_lease.specs.Lease.{lease_at, is_acked, NonePasses}
-use Rattle.qh_replay.specs.Replay.{is_open, is_begun}
+use Rattle.qh_core.specs.Replay.{is_open, is_begun}
 use Rattle.qh_board.specs.Board.{BoardView, begun, BeganWith, IsBoard, Serves, lease_for, started}
 use Rattle.qh_board.proofs.DeliverLemmas.{extends_same}
 use Rattle.qh_board.proofs.DiskLemmas.{serves_same}
 use Rattle.qh_lease.specs.Tally.{Count}
 use Rattle.qh_lease.specs.declared.lease.Lease.TheVariants.{Fresh}
 use Rattle.qh_run.specs.Carrying.{Carries, Completes}
-use Rattle.qh_meaning.specs.Slots.{over_or, slot_sums, sum_of_slots}
+use Rattle.qh_plan.specs.Slots.{over_or, slot_sums, sum_of_slots}
 use Rattle.std.proofs.lemmas.List.FromFn.{length-map-range_with_len}
 use Rattle.qh_slots.specs.Stands.{AllFit}
-use Rattle.qh_totals.proofs.RunningLemmas.{whole_total}
+use Rattle.qh_slots.proofs.RunningLemmas.{whole_total}
 use Rattle.qh_run.proofs.RecordLemmas.{none_some}
 
 module _ {D T : Type 0} (face : D → Face) (b : BoardView D T) (s0 : Slots) (board : IsBoard face b) (began : BeganWith b s0) where

@@ -10,11 +10,11 @@ use Rattle.qh_plan.specs.declared.verdict.Verdict.{Verdict}
 use Rattle.qh_plan.specs.Jobs.{Job, ranges}
 use Rattle.qh_slots.specs.Stands.{Slots, slot_at, nones}
 use Rattle.qh_parts.proofs.LayLemmas.{none_at}
-use Rattle.qh_record.specs.Record.{count_bare}
+use Rattle.qh_slots.specs.Record.{count_bare}
 use Rattle.qh_lease.specs.declared.lease.Lease.{Lease}
 use Rattle.qh_lease.specs.declared.lease.Lease.TheVariants.{Fresh, Out, Acked}
 use Rattle.qh_lease.specs.Lease.{lease_at, is_fresh, NonePasses, IsLowest}
-use Rattle.qh_replay.specs.Replay.{is_open}
+use Rattle.qh_core.specs.Replay.{is_open}
 use Rattle.qh_board.specs.Board.{lease_for}
 
 count_cons : {X : Type 0} (p : X → Bool) (x : X) (xs : List X) → count_by p (x ∷ xs) ≡ cond (p x) 1 0 + count_by p xs

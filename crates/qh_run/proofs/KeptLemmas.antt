@@ -2,31 +2,31 @@
 use Rattle.std.proofs.Common.{◌≡◌, ◌⊎◌, inl, inr, ℕ, ◌<◌, Bool, true, false, List, Option, Some, None, refl, sym, ap, subst, ◌∙◌}
 use Rattle.std.specs.Prelude.{IsSome, IfSome, IsSomeAnd, is_some, option_map}
 use Rattle.std.specs.Option.{ForSome}
-use Rattle.qh_counts.specs.Counts.{Rose, RoseBy}
-use Rattle.qh_counts.proofs.Chains.{rose_before}
+use Rattle.qh_limits.specs.Counts.{Rose, RoseBy}
+use Rattle.qh_limits.proofs.Chains.{rose_before}
 use Rattle.qh_plan.specs.declared.verdict.Verdict.{Verdict}
 use Rattle.qh_plan.specs.Jobs.{Job, IsJob, ranges}
-use Rattle.qh_meaning.specs.Values.{run_value}
+use Rattle.qh_plan.specs.Values.{run_value}
 use Rattle.qh_disk.specs.Disk.{Face, IsImage, Reads}
 use Rattle.qh_disk.specs.Moments.{IsStableAt, EachImage}
 use Rattle.qh_slots.specs.Stands.{Slots, slot_at, nones, AreTrue, Holds}
 use Rattle.qh_slots.specs.Attaching.{slots_of}
 use Rattle.qh_slots.specs.declared.fault.AttachFault.{AttachFault}
 use Rattle.qh_slots.proofs.StandLemmas.{one_map}
-use Rattle.qh_record.specs.Record.{Keeping, slots_before, slots_after, Extends, IsFull, IsEnd, IfTold, count_bare}
-use Rattle.qh_record.specs.Moments.{BeginsTrue, GoesOn, IsUnwritten}
-use Rattle.qh_record.specs.Keeps.{KeepsJournal, IsWhole}
-use Rattle.qh_record.specs.Refusing.{RefusesJournal, RefusesOld, Accepts}
+use Rattle.qh_slots.specs.Record.{Keeping, slots_before, slots_after, Extends, IsFull, IsEnd, IfTold, count_bare}
+use Rattle.qh_slots.specs.Moments.{BeginsTrue, GoesOn, IsUnwritten}
+use Rattle.qh_slots.specs.Keeps.{KeepsJournal, IsWhole}
+use Rattle.qh_slots.specs.Refusing.{RefusesJournal, RefusesOld, Accepts}
 use Rattle.qh_migrate.specs.Faults.{attach_of}
-use Rattle.qh_open.specs.declared.fault.OpenFault.{OpenFault}
-use Rattle.qh_open.specs.declared.fault.OpenFault.TheVariants as fault
-use Rattle.qh_open.specs.Opening.{Opened, Opens, OpenMayFail, keeping}
-use Rattle.qh_open.proofs.OptionLemmas.{some_from, some_to, some_map, map_has, is_some_has, one_value}
-use Rattle.qh_open.proofs.MomentLemmas.{unwritten_same}
+use Rattle.qh_migrate.specs.declared.open_fault.OpenFault.{OpenFault}
+use Rattle.qh_migrate.specs.declared.open_fault.OpenFault.TheVariants as fault
+use Rattle.qh_migrate.specs.Opening.{Opened, Opens, OpenMayFail, keeping}
+use Rattle.qh_migrate.proofs.OptionLemmas.{some_from, some_to, some_map, map_has, is_some_has, one_value}
+use Rattle.qh_migrate.proofs.MomentLemmas.{unwritten_same}
 use Rattle.qh_journal.specs.Calls.{Went}
 use Rattle.qh_board.specs.Board.{Serves}
-use Rattle.qh_open.proofs.RunLemmas.{keeps_on}
-use Rattle.qh_open.proofs.AnswerLemmas.{IsOldRefused, refused_told, old_refused_told, accepted_told}
+use Rattle.qh_migrate.proofs.RunLemmas.{keeps_on}
+use Rattle.qh_migrate.proofs.AnswerLemmas.{IsOldRefused, refused_told, old_refused_told, accepted_told}
 use Rattle.qh_run.specs.declared.ended.RunEnd.{RunEnd}
 use Rattle.qh_run.specs.declared.ended.RunEnd.TheVariants.{Sums, Over, Disk, OldDisk, Refused, OldRefused, Memory}
 use Rattle.qh_run.specs.Ends.{answer_of, IsFaultless, MayEnd, EndsOldRefused, IsComplete}

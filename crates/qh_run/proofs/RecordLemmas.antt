@@ -4,15 +4,15 @@ use Rattle.std.specs.Prelude.{IsSome, IfSome, IsSomeAnd, is_some, option_map, op
 use Rattle.qh_plan.specs.declared.verdict.Verdict.{Verdict}
 use Rattle.qh_plan.specs.Jobs.{Job, IsJob, ranges}
 use Rattle.qh_plan.specs.Verdicts.{total}
-use Rattle.qh_meaning.specs.Values.{range_value, run_value}
-use Rattle.qh_meaning.proofs.SlotLemmas.{total_same}
+use Rattle.qh_plan.specs.Values.{range_value, run_value}
+use Rattle.qh_plan.proofs.SlotLemmas.{total_same}
 use Rattle.qh_disk.specs.Disk.{Face, IsImage, Reads}
 use Rattle.qh_slots.specs.Stands.{Slots, slot_at, nones, AreTrue, Made, Made1}
 use Rattle.qh_slots.specs.Attaching.{slots_of, slots1_of}
 use Rattle.qh_slots.proofs.StandLemmas.{one_map, one_map1, closed, closed1}
 use Rattle.qh_parts.proofs.LayLemmas.{none_at}
-use Rattle.qh_record.specs.Record.{Keeping, counted, taken_over, given, slots_before, Extends, IsFull, Migrates}
-use Rattle.qh_record.specs.Moments.{TellsAndEach, OldIsMade, BeginsTrue}
+use Rattle.qh_slots.specs.Record.{Keeping, counted, taken_over, given, slots_before, Extends, IsFull, Migrates}
+use Rattle.qh_slots.specs.Moments.{TellsAndEach, OldIsMade, BeginsTrue}
 
 pub none_some : {X : Type 0} (x : X) → None ≡ Some x → ⊥
 none_some x e = cc

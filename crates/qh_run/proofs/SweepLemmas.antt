@@ -11,7 +11,7 @@ use Rattle.qh_lease.specs.declared.lease.Lease.{Lease}
 use Rattle.qh_lease.specs.declared.lease.Lease.TheVariants.{Fresh, Acked}
 use Rattle.qh_lease.specs.declared.totals.Totals.{Totals}
 use Rattle.qh_lease.specs.Lease.{lease_at, is_acked, NonePasses, IsLowest}
-use Rattle.qh_replay.specs.Replay.{CourseView, is_open}
+use Rattle.qh_core.specs.Replay.{CourseView, is_open}
 use Rattle.qh_range.specs.Results.{RangeResult}
 use Rattle.qh_board.specs.Board.{BoardView, begun, Serves}
 use Rattle.qh_board.specs.Deliveries.{acknowledged, Halts}

@@ -2,17 +2,17 @@
 use Rattle.std.specs.Prelude.{◌≡◌, ℕ, ◌+◌, ◌≤◌, Bool, true, false, List, length, Option, Some}
 use Rattle.std.specs.List.{count_by}
 use Rattle.std.specs.Option.{ForSome}
-use Rattle.qh_counts.specs.Counts.{Rose}
+use Rattle.qh_limits.specs.Counts.{Rose}
 use Rattle.qh_plan.specs.declared.verdict.Verdict.{Verdict}
 use Rattle.qh_plan.specs.Jobs.{Job, ranges}
 use Rattle.qh_plan.specs.Verdicts.{total}
 use Rattle.qh_disk.specs.Disk.{Face, Reads}
 use Rattle.qh_disk.specs.Moments.{EachImage}
 use Rattle.qh_slots.specs.Stands.{Slots, slot_at, Stands, Holds}
-use Rattle.qh_record.specs.Record.{Extends, IsFull}
+use Rattle.qh_slots.specs.Record.{Extends, IsFull}
 use Rattle.qh_journal.specs.Calls.{Went}
 use Rattle.qh_lease.specs.Lease.{is_fresh, NonePasses}
-use Rattle.qh_replay.specs.Replay.{is_open}
+use Rattle.qh_core.specs.Replay.{is_open}
 use Rattle.qh_board.specs.Board.{BoardView, begun, Serves}
 use Rattle.qh_board.specs.Claims.{SameTimer}
 use Rattle.qh_board.specs.Deliveries.{DiskRose}

@@ -1,16 +1,16 @@
 -- How a run ends, and why.
 use Rattle.std.specs.Prelude.{◌≡◌, ◌⊎◌, false, true, All, length, IfSome, IsSome, IsSomeAnd, Option, Some, None}
 use Rattle.qh_limits.specs.Limits.{coefficient_bits}
-use Rattle.qh_counts.specs.Counts.{Rose}
+use Rattle.qh_limits.specs.Counts.{Rose}
 use Rattle.qh_ring.specs.Numbers.{IsWithin}
 use Rattle.qh_plan.specs.declared.verdict.Verdict.{Verdict}
 use Rattle.qh_plan.specs.declared.verdict.Verdict.TheVariants.{Sum, Over as OverPath}
 use Rattle.qh_plan.specs.Jobs.{Job}
 use Rattle.qh_disk.specs.Disk.{Face}
 use Rattle.qh_slots.specs.declared.fault.AttachFault.{AttachFault}
-use Rattle.qh_record.specs.Record.{Keeping}
-use Rattle.qh_record.specs.Moments.{IsUnwritten}
-use Rattle.qh_record.specs.Refusing.{RefusesJournal, RefusesOld, Accepts}
+use Rattle.qh_slots.specs.Record.{Keeping}
+use Rattle.qh_slots.specs.Moments.{IsUnwritten}
+use Rattle.qh_slots.specs.Refusing.{RefusesJournal, RefusesOld, Accepts}
 use Rattle.qh_migrate.specs.Faults.{attach_of}
 use Rattle.qh_run.specs.declared.ended.RunEnd.{RunEnd}
 use Rattle.qh_run.specs.declared.ended.RunEnd.TheVariants.{Sums, Over, Disk, OldDisk, Refused, OldRefused, Memory}

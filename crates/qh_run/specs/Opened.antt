@@ -3,9 +3,9 @@ use Rattle.std.specs.Prelude.{◌≡◌, ℕ, List, Some, IfSome}
 use Rattle.qh_plan.specs.Jobs.{Job}
 use Rattle.qh_disk.specs.Disk.{Face}
 use Rattle.qh_slots.specs.Stands.{Slots}
-use Rattle.qh_open.specs.declared.fault.OpenFault.{OpenFault}
-use Rattle.qh_open.specs.declared.fault.OpenFault.TheVariants as fault
-use Rattle.qh_open.specs.Opening.{Continues}
+use Rattle.qh_migrate.specs.declared.open_fault.OpenFault.{OpenFault}
+use Rattle.qh_migrate.specs.declared.open_fault.OpenFault.TheVariants as fault
+use Rattle.qh_migrate.specs.Opening.{Continues}
 use Rattle.qh_run.specs.declared.ended.RunEnd.{RunEnd}
 use Rattle.qh_run.specs.declared.ended.RunEnd.TheVariants.{Disk, OldDisk, Refused, OldRefused, Memory}
 use Rattle.qh_run.specs.Ends.{answer_of}

@@ -3,7 +3,7 @@ use Rattle.std.specs.Prelude.{◌≡◌, ◌⊎◌, ℕ, ◌<◌, ◌≤◌, fal
 use Rattle.qh_plan.specs.Jobs.{Job, ranges}
 use Rattle.qh_lease.specs.declared.lease.Lease.{Lease}
 use Rattle.qh_lease.specs.Lease.{lease_at}
-use Rattle.qh_replay.specs.Replay.{is_open}
+use Rattle.qh_core.specs.Replay.{is_open}
 use Rattle.qh_range.specs.Results.{RangeResult}
 
 -- one of the results is that of this range

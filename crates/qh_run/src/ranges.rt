@@ -1,6 +1,6 @@
 //! The ranges of a run, evaluated and recorded.
 ghost use Rattle.std.specs.Prelude.{◌≡◌, ◌≢◌, ◌<◌, ◌≤◌, ◌+◌, ℕ, None, IfOk, IfErr, OnOk, set, length};
-ghost use Rattle.qh_counts.specs.Counts.{RoseBy};
+ghost use Rattle.qh_limits.specs.Counts.{RoseBy};
 ghost use Rattle.qh_plan.specs.Jobs.{ranges};
 ghost use Rattle.qh_lease.specs.declared.lease.Lease.TheVariants as Leases;
 ghost use Rattle.qh_run.specs.Carrying.{Carries, count_fresh, Turned, MayStop};

@@ -2,13 +2,13 @@
 ghost use Rattle.std.specs.Prelude.{◌≡◌, ◌≢◌, ◌⊎◌, [], true, false, IfSome, IsSome, IsSomeAnd};
 ghost use Rattle.std.specs.Option.{ForSome};
 ghost use Rattle.std.specs.Arc.{arc_value};
-ghost use Rattle.qh_counts.specs.Counts.{RoseBy};
+ghost use Rattle.qh_limits.specs.Counts.{RoseBy};
 ghost use Rattle.qh_plan.specs.Jobs.{ranges};
-ghost use Rattle.qh_meaning.specs.Values.{run_value};
+ghost use Rattle.qh_plan.specs.Values.{run_value};
 ghost use Rattle.qh_disk.specs.Moments.{Runs};
-ghost use Rattle.qh_record.specs.Record.{slots_before, count_bare};
-ghost use Rattle.qh_record.specs.Moments.{IsReadOnly};
-ghost use Rattle.qh_record.specs.Keeps.{KeepsJournal, IsWhole};
+ghost use Rattle.qh_slots.specs.Record.{slots_before, count_bare};
+ghost use Rattle.qh_slots.specs.Moments.{IsReadOnly};
+ghost use Rattle.qh_slots.specs.Keeps.{KeepsJournal, IsWhole};
 ghost use Rattle.qh_run.specs.Opened.{end_of, RunsOn};
 ghost use Rattle.qh_run.specs.Ends.{answer_of, IsBounded, AcceptsOld, IsFaultless, MayEnd, IsComplete};
 
@@ -17,7 +17,7 @@ use crate::over::{Left, run_journal};
 use qh_disk::{Disk, MemDisk};
 use qh_journal::{Journal, Unmade};
 use qh_lease::Timer;
-use qh_open::{OpenFault, open_journal};
+use qh_migrate::{OpenFault, open_journal};
 use qh_plan::Job;
 use std::alloc::Global;
 use std::sync::Arc;

@@ -2,7 +2,7 @@
 ghost use Rattle.std.specs.Prelude.{◌≡◌, ◌⊎◌, ◌<◌, ◌≤◌, ◌+◌, ℕ, All, None, false, IfOk, IfErr, OnOk, length};
 ghost use Rattle.qh_plan.specs.Jobs.{ranges};
 ghost use Rattle.qh_lease.specs.Lease.{lease_at, NonePasses};
-ghost use Rattle.qh_replay.specs.Replay.{is_open};
+ghost use Rattle.qh_core.specs.Replay.{is_open};
 ghost use Rattle.qh_run.specs.Carrying.{Carries, MayStop};
 ghost use Rattle.qh_run.specs.Sweeping.{Gathers, IsGathered};
 

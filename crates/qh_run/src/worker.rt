@@ -3,10 +3,10 @@ ghost use Rattle.std.specs.Prelude.{◌≡◌, ◌<◌, IfOk};
 ghost use Rattle.std.specs.Arc.{arc_value};
 ghost use Rattle.qh_plan.specs.Jobs.{prefixes};
 
+use qh_half::Steps;
 use qh_plan::Job;
 use qh_prefix::{Checkpoint, PrefixCache, make_checkpoint};
 use qh_range::{RangeResult, Room, Ticket};
-use qh_steps::Steps;
 use std::alloc::{AllocError, Global};
 use std::marker::Model;
 use std::sync::Arc;
@@ -62,7 +62,7 @@ impl<L: Ledger> Worker<L> {
     ghost use Rattle.qh_limits.specs.Limits.{max_ranges};
     ghost use Rattle.std.specs.Arc.{arc_value};
     ghost use Rattle.qh_plan.specs.Jobs.{ranges};
-    ghost use Rattle.qh_meaning.specs.Values.{range_value};
+    ghost use Rattle.qh_plan.specs.Values.{range_value};
 
     /// A worker on the job's ranges. It takes four halves.
     pub(crate) fn new(

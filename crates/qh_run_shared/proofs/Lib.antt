@@ -1,1 +1,3 @@
 pub mod OverLemmas
+pub mod FactLemmas
+pub mod AnswerLemmas

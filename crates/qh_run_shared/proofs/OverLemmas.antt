@@ -5,10 +5,10 @@ use Rattle.std.specs.Option.{ForSome}
 use Rattle.qh_plan.specs.Jobs.{Job}
 use Rattle.qh_disk.specs.Disk.{Face, Reads}
 use Rattle.qh_slots.specs.Stands.{Slots, slot_at}
-use Rattle.qh_record.specs.Moments.{GoesOn}
+use Rattle.qh_slots.specs.Moments.{GoesOn}
 use Rattle.qh_journal.specs.Calls.{Went, JournalView}
 use Rattle.qh_lease.specs.Lease.{NonePasses}
-use Rattle.qh_replay.specs.Replay.{is_open}
+use Rattle.qh_core.specs.Replay.{is_open}
 use Rattle.qh_board.specs.Board.{BoardView, begun, BeganWith, IsBoard, Serves}
 use Rattle.qh_board.specs.Deliveries.{DiskRose}
 use Rattle.qh_board.proofs.DiskLemmas.{serves_same}
@@ -18,7 +18,7 @@ use Rattle.qh_run.specs.Ends.{answer_of, IsBounded}
 use Rattle.qh_run.specs.Carrying.{Carries, Completes, MayLeave}
 use Rattle.qh_run.proofs.CarryLemmas.{serves_on, went_on, rose_later}
 use Rattle.qh_lease.specs.Tally.{Count}
-use Rattle.qh_shared.specs.Facts.{WasShared}
+use Rattle.qh_run_shared.specs.Facts.{WasShared}
 
 none_some : (n : ℕ) → None ≡ Some n → ⊥
 none_some n e = cc

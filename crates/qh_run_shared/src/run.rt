@@ -2,10 +2,10 @@
 ghost use Rattle.std.specs.Prelude.{◌≡◌, ◌≢◌, ◌≤◌, ◌⊎◌, [], true, false, IfSome, IsSome, IsSomeAnd};
 ghost use Rattle.std.specs.Option.{ForSome};
 ghost use Rattle.std.specs.Arc.{arc_value};
-ghost use Rattle.qh_meaning.specs.Values.{run_value};
+ghost use Rattle.qh_plan.specs.Values.{run_value};
 ghost use Rattle.qh_disk.specs.Moments.{Runs};
-ghost use Rattle.qh_record.specs.Moments.{IsReadOnly};
-ghost use Rattle.qh_record.specs.Keeps.{KeepsJournal, IsWhole};
+ghost use Rattle.qh_slots.specs.Moments.{IsReadOnly};
+ghost use Rattle.qh_slots.specs.Keeps.{KeepsJournal, IsWhole};
 ghost use Rattle.qh_run.specs.Opened.{end_of, RunsOn};
 ghost use Rattle.qh_run.specs.Ends.{answer_of, IsBounded, AcceptsOld, IsFaultless, MayEnd, IsComplete};
 
@@ -14,7 +14,7 @@ use qh_disk::{Disk, MemDisk};
 use qh_draw::MAX_SEATS;
 use qh_journal::{Journal, Unmade};
 use qh_lease::Timer;
-use qh_open::open_journal;
+use qh_migrate::open_journal;
 use qh_plan::Job;
 use qh_run::{Ran, RunEnd, end_of};
 use qh_workers::WorkerGate;

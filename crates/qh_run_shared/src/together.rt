@@ -3,8 +3,8 @@ ghost use Rattle.std.specs.Prelude.{◌≡◌, ◌<◌, ◌≤◌, ◌+◌, ◌-
 ghost use Rattle.std.specs.Arc.{arc_value};
 ghost use Rattle.qh_plan.specs.Jobs.{ranges};
 ghost use Rattle.qh_lease.specs.Lease.{NonePasses};
-ghost use Rattle.qh_replay.specs.Replay.{is_open};
-ghost use Rattle.qh_shared.specs.Facts.{WasShared};
+ghost use Rattle.qh_core.specs.Replay.{is_open};
+ghost use Rattle.qh_run_shared.specs.Facts.{WasShared};
 
 use crate::hired::{hire, settle_all};
 use crate::working::{Floor, work_shared};

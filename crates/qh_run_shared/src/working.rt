@@ -2,17 +2,17 @@
 ghost use Rattle.std.specs.Prelude.{◌≡◌, ◌<◌, All, vec_len};
 ghost use Rattle.std.specs.Arc.{arc_value};
 ghost use Rattle.qh_plan.specs.Jobs.{ranges};
-ghost use Rattle.qh_shared.specs.Facts.{UnderLock, WasShared};
+ghost use Rattle.qh_run_shared.specs.Facts.{UnderLock, WasShared};
 
 use crate::hired::Hired;
+use crate::{Named, SharedBoard};
 use qh_board::Board;
 use qh_disk::Disk;
 use qh_draw::Draw;
+use qh_half::Steps;
 use qh_lease::{Ledgers, Timer};
 use qh_plan::Job;
 use qh_prefix::PrefixCache;
-use qh_shared::{Named, SharedBoard};
-use qh_steps::Steps;
 use qh_workers::{Desk, WorkerGate, work};
 use std::alloc::Global;
 use std::marker::Brand;

@@ -6,3 +6,6 @@ pub mod ByteLemmas
 pub mod StandLemmas
 pub mod PlaceLemmas
 pub mod OwnerLemmas
+pub mod StillLemmas
+pub mod RunningLemmas
+pub mod FirstLemmas

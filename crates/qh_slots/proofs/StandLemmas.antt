@@ -7,8 +7,8 @@ use Rattle.std.proofs.lemmas.List.{places, ext_get_or, take_all, drop_more, drop
 use Rattle.std.proofs.lemmas.List.FromFn.{length-map-range_with_len, get_or-map-range_with_len}
 use Rattle.qh_plan.specs.Jobs.{Job, IsJob, ranges}
 use Rattle.qh_plan.specs.Texts.{job_text}
-use Rattle.qh_meaning.proofs.RunLemmas.{first_failing_none}
-use Rattle.qh_meaning.proofs.OverLemmas.{failing_none, first_failing_some}
+use Rattle.qh_plan.proofs.RunValueLemmas.{first_failing_none}
+use Rattle.qh_plan.proofs.OverLemmas.{failing_none, first_failing_some}
 use Rattle.qh_slots.specs.Layout.{mark, head, old_head, place, part}
 use Rattle.qh_slots.specs.Slots.{SlotIs, slot_of}
 use Rattle.qh_slots.specs.Stands.{Slots, slot_at, StandsBy, Stands, Stands1, nones}

@@ -3,7 +3,7 @@ use Rattle.std.specs.Prelude.{◌≡◌, take, ℕ, suc, ◌==◌, Bool, not, �
 use Rattle.std.specs.List.{range_with_len}
 use Rattle.std.proofs.Common.{get_or}
 use Rattle.qh_plan.specs.Jobs.{Job, ranges}
-use Rattle.qh_meaning.specs.Values.{first_failing}
+use Rattle.qh_plan.specs.Values.{first_failing}
 use Rattle.qh_slots.specs.Layout.{mark, head, old_head, place, part, is_open, body}
 use Rattle.qh_slots.specs.Slots.{is_spelling, slot_of}
 use Rattle.qh_slots.specs.Stands.{Slots, nones}

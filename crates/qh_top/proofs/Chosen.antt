@@ -8,9 +8,9 @@ use Rattle.qh_planner.specs.Choice.{IsCheapest, IsRefused}
 use Rattle.qh_planner.specs.declared.row.CutRow.{CutRow}
 use Rattle.qh_planner.proofs.ChoiceLemmas.{chosen_best, none_allowed}
 use Rattle.qh_words.specs.declared.options.Options.{Options}
-use Rattle.qh_tell.specs.declared.stop.Refusal.TheVariants.{NoCut}
-use Rattle.qh_tell.specs.declared.stop.Stop.{Stop}
-use Rattle.qh_tell.specs.declared.stop.Stop.TheVariants.{Refused, Memory}
+use Rattle.qh_request.specs.declared.stop.Refusal.TheVariants.{NoCut}
+use Rattle.qh_request.specs.declared.stop.Stop.{Stop}
+use Rattle.qh_request.specs.declared.stop.Stop.TheVariants.{Refused, Memory}
 use Rattle.qh_request.specs.Chosen.{cut_asked, IsPartBy, IsTableBy, NoneAllowed}
 use Rattle.qh_request.specs.Parts.{PlanMayStop}
 

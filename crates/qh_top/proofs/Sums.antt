@@ -7,24 +7,24 @@ use Rattle.std.proofs.lemmas.Nat.{mul-le}
 use Rattle.std.proofs.lemmas.List.FromFn.{length-range_with_len}
 use Rattle.std.proofs.lemmas.List.Sums.{count_by-le-length}
 use Rattle.qh_ring.specs.declared.number.Omega.{Omega}
-use Rattle.qh_counts.specs.Counts.{RoseBy}
+use Rattle.qh_limits.specs.Counts.{RoseBy}
 use Rattle.qh_plan.specs.declared.verdict.Verdict.{Verdict}
 use Rattle.qh_plan.specs.declared.verdict.Verdict.TheVariants.{Sum, Over as PathOver}
 use Rattle.qh_plan.specs.Jobs.{Job, IsJob, prefixes, roots, ranges, ranges_of}
 use Rattle.qh_plan.specs.Verdicts.{total}
 use Rattle.qh_plan.proofs.PlanLemmas.{counted_job}
-use Rattle.qh_meaning.specs.Values.{range_value, run_value}
-use Rattle.qh_meaning.proofs.SlotLemmas.{total_same}
+use Rattle.qh_plan.specs.Values.{range_value, run_value}
+use Rattle.qh_plan.proofs.SlotLemmas.{total_same}
 use Rattle.qh_disk.specs.Disk.{Face}
 use Rattle.qh_slots.specs.Stands.{Slots, slot_at, nones}
 use Rattle.qh_slots.specs.Layout.{head}
 use Rattle.qh_slots.specs.Attaching.{first_refusal, head_refusal, slots_of, slots_by}
 use Rattle.qh_slots.specs.declared.fault.AttachFault.{AttachFault}
 use Rattle.qh_slots.specs.declared.fault.AttachFault.TheVariants.{Empty}
-use Rattle.qh_record.specs.Record.{Keeping, counted, values, slots_before, slots_after, IsFull, count_bare}
-use Rattle.qh_record.specs.Refusing.{RefusesJournal}
-use Rattle.qh_record.specs.Keeps.{KeepsJournal, IsWhole}
-use Rattle.qh_record.proofs.StillLemmas.{value_at, no_slot, values_extend}
+use Rattle.qh_slots.specs.Record.{Keeping, counted, values, slots_before, slots_after, IsFull, count_bare}
+use Rattle.qh_slots.specs.Refusing.{RefusesJournal}
+use Rattle.qh_slots.specs.Keeps.{KeepsJournal, IsWhole}
+use Rattle.qh_slots.proofs.StillLemmas.{value_at, no_slot, values_extend}
 use Rattle.qh_migrate.specs.Faults.{attach_of}
 use Rattle.qh_run.specs.Ends.{answer_of, IsBounded, AcceptsOld, MayEnd}
 use Rattle.qh_run.specs.declared.ended.RunEnd.{RunEnd}
@@ -35,9 +35,9 @@ use Rattle.qh_request.specs.Request.{IsRun}
 use Rattle.qh_request.specs.Refusals.{JournalRefuses}
 use Rattle.qh_request.specs.Parts.{JobMayStop}
 use Rattle.qh_top.specs.Parts.{StopsWith, IsPrintable}
-use Rattle.qh_tell.specs.declared.stop.Stop.{Stop}
-use Rattle.qh_tell.specs.declared.stop.JournalRefusal.{JournalRefusal}
-use Rattle.qh_tell.specs.declared.stop.JournalRefusal.TheVariants.{OfJournal, OfOld}
+use Rattle.qh_request.specs.declared.stop.Stop.{Stop}
+use Rattle.qh_request.specs.declared.stop.JournalRefusal.{JournalRefusal}
+use Rattle.qh_request.specs.declared.stop.JournalRefusal.TheVariants.{OfJournal, OfOld}
 
 some_same : {X : Type 0} (o : Option X) (x y : X) → o ≡ Some x → o ≡ Some y → x ≡ y
 some_same o x y e f = cc

@@ -6,9 +6,9 @@ use Rattle.qh_ring.specs.Numbers.{IsWithin}
 use Rattle.qh_plan.specs.Jobs.{Job}
 use Rattle.qh_run.specs.declared.ended.RunEnd.{RunEnd}
 use Rattle.qh_run.specs.declared.ended.RunEnd.TheVariants.{Sums, Over as PathOver, Disk, OldDisk, Refused as RunRefused, OldRefused, Memory as RunMemory}
-use Rattle.qh_tell.specs.declared.stop.JournalRefusal.TheVariants.{OfJournal, OfOld}
-use Rattle.qh_tell.specs.declared.stop.Stop.{Stop}
-use Rattle.qh_tell.specs.declared.stop.Stop.TheVariants.{OverflowPath, DiskFault, Memory, Journal}
+use Rattle.qh_request.specs.declared.stop.JournalRefusal.TheVariants.{OfJournal, OfOld}
+use Rattle.qh_request.specs.declared.stop.Stop.{Stop}
+use Rattle.qh_request.specs.declared.stop.Stop.TheVariants.{OverflowPath, DiskFault, Memory, Journal}
 
 -- the stop that the end of a run is
 abbrev pub StopsWith : RunEnd → Stop → Type 0

@@ -1,20 +1,20 @@
 //! The top call of one caller.
 ghost use Rattle.std.specs.Prelude.{◌≡◌, ◌≢◌, ◌≤◌, ◌<◌, ◌⊎◌, ℕ, List, [], true, false, Err, Some, None, IfErr, OnOk, IfSome, IsSome, IsSomeAnd};
-ghost use Rattle.qh_counts.specs.Counts.{RoseBy};
+ghost use Rattle.qh_limits.specs.Counts.{RoseBy};
 ghost use Rattle.qh_plan.specs.Jobs.{Job as JobValue, IsJob, ranges};
 ghost use Rattle.qh_disk.specs.Moments.{EachImageSince, IsStableAt, Runs};
 ghost use Rattle.qh_slots.specs.Stands.{Made, Holds};
-ghost use Rattle.qh_record.specs.Record.{counted, taken_over, IfTold, slots_before, Extends, IsFull, Grows, IsFinished, count_bare};
-ghost use Rattle.qh_record.specs.Moments.{IsMade, OldIsMade, BeginsTrue, IsOldOrMade, IsOldOrGoesOn, StaysStable, IsEmptyAt, IsUnwritten, IsReadOnly};
+ghost use Rattle.qh_slots.specs.Record.{counted, taken_over, IfTold, slots_before, Extends, IsFull, Grows, IsFinished, count_bare};
+ghost use Rattle.qh_slots.specs.Moments.{IsMade, OldIsMade, BeginsTrue, IsOldOrMade, IsOldOrGoesOn, StaysStable, IsEmptyAt, IsUnwritten, IsReadOnly};
 ghost use Rattle.qh_words.specs.declared.options.Options.{Options as OptionsValue};
 ghost use Rattle.qh_words.specs.declared.size.GenSize.{GenSize as Size};
-ghost use Rattle.qh_tell.specs.Seen.{seen};
+ghost use Rattle.qh_request.specs.Seen.{seen};
 ghost use Rattle.qh_request.specs.Chosen.{asks_auto};
 ghost use Rattle.qh_request.specs.Jobs.{request, keeping, Asks, Takes};
 ghost use Rattle.qh_request.specs.Refusals.{Refuses, Reading, RefusesAll, SourceRises, JournalRefuses};
 ghost use Rattle.qh_request.specs.Request.{Prints, PrintsAsked, RunIsWhole, EndsWhole, EndsEarly, Answers, FaultCame, FaultFirst};
-ghost use Rattle.qh_tell.specs.declared.stop.Refusal.{Refusal as RefusalValue};
-ghost use Rattle.qh_tell.specs.declared.stop.JournalRefusal.{JournalRefusal as JournalRefusalValue};
+ghost use Rattle.qh_request.specs.declared.stop.Refusal.{Refusal as RefusalValue};
+ghost use Rattle.qh_request.specs.declared.stop.JournalRefusal.{JournalRefusal as JournalRefusalValue};
 ghost use Rattle.qh_request.specs.Outcomes.{MayStop, Stops, TellsTable, Tells};
 
 use crate::call::answered;

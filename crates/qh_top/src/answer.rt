@@ -12,7 +12,7 @@ ghost use Rattle.qh_request.specs.Chosen.{asks_auto, IsTableBy};
 ghost use Rattle.qh_request.specs.Answer.{gen_line, head_text};
 ghost use Rattle.qh_request.specs.Indexed.{IsUncutText, IsProbText, IsWholeText, IsIndexedBy};
 ghost use Rattle.qh_request.specs.Request.{EndsEarly, HeardOf};
-ghost use Rattle.qh_tell.specs.Stops.{status_of};
+ghost use Rattle.qh_request.specs.Stops.{status_of};
 ghost use Rattle.qh_request.specs.Parts.{UncutMayStop, AnswerMayStop, AnswerMoves};
 
 use crate::cut::cut_answer;
@@ -24,8 +24,8 @@ use qh_plan::check_uncut;
 use qh_planner::CutRow;
 use qh_print::{Lines, lines_of};
 use qh_prob::{Prob, all_probabilities, prob_lines};
+use qh_request::{Refusal, Stop};
 use qh_ring::Omega;
-use qh_tell::{Refusal, Stop};
 use qh_text::push_word;
 use qh_uncut::{UncutFault, evolve};
 use qh_words::{GenSize, Options};

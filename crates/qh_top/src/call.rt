@@ -3,21 +3,19 @@ ghost use Rattle.std.specs.Prelude.{◌≡◌, ◌≢◌, ◌≤◌, ◌⊎◌, 
 ghost use Rattle.qh_words.specs.Size.{IsGenSize};
 ghost use Rattle.qh_words.specs.declared.options.Options.{Options as OptionsValue};
 ghost use Rattle.qh_words.specs.declared.size.GenSize.{GenSize as Size};
-ghost use Rattle.qh_tell.specs.Seen.{seen};
+ghost use Rattle.qh_request.specs.Seen.{seen};
 ghost use Rattle.qh_request.specs.Chosen.{asks_auto};
 ghost use Rattle.qh_request.specs.Jobs.{request};
 ghost use Rattle.qh_request.specs.Request.{Prints, EndsEarly, HeardOf};
-ghost use Rattle.qh_tell.specs.Stops.{status_of, Says};
+ghost use Rattle.qh_request.specs.Stops.{status_of, Says};
 ghost use Rattle.qh_request.specs.Outcomes.{MayStopBy, MayStop, Stops, SaysBefore, TellsTable, Tells};
 ghost use Rattle.qh_request.specs.Parts.{Moves, Ended};
 
 use crate::answer::answer;
-use qh_auto::{tell_on, tell_table};
 use qh_disk::Disk;
 use qh_io::{Sink, Source, write_all_of};
 use qh_lease::Timer;
-use qh_request::take_input;
-use qh_tell::Stop;
+use qh_request::{Stop, take_input, tell_on, tell_table};
 use qh_words::{Options, WordsFault, read_words};
 use std::alloc::Global;
 

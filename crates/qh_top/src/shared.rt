@@ -3,17 +3,17 @@ ghost use Rattle.std.specs.Prelude.{◌≡◌, ◌≢◌, ◌≤◌, ◌<◌, �
 ghost use Rattle.qh_plan.specs.Jobs.{Job as JobValue, IsJob, ranges};
 ghost use Rattle.qh_disk.specs.Moments.{EachImageSince, IsStableAt, Runs};
 ghost use Rattle.qh_slots.specs.Stands.{Made, Holds};
-ghost use Rattle.qh_record.specs.Record.{counted, taken_over, IfTold, Extends, IsFull, Grows, IsFinished};
-ghost use Rattle.qh_record.specs.Moments.{IsMade, OldIsMade, BeginsTrue, IsOldOrMade, IsOldOrGoesOn, StaysStable, IsEmptyAt, IsUnwritten, IsReadOnly};
+ghost use Rattle.qh_slots.specs.Record.{counted, taken_over, IfTold, Extends, IsFull, Grows, IsFinished};
+ghost use Rattle.qh_slots.specs.Moments.{IsMade, OldIsMade, BeginsTrue, IsOldOrMade, IsOldOrGoesOn, StaysStable, IsEmptyAt, IsUnwritten, IsReadOnly};
 ghost use Rattle.qh_words.specs.declared.options.Options.{Options as OptionsValue};
 ghost use Rattle.qh_words.specs.declared.size.GenSize.{GenSize as Size};
-ghost use Rattle.qh_tell.specs.Seen.{seen};
+ghost use Rattle.qh_request.specs.Seen.{seen};
 ghost use Rattle.qh_request.specs.Chosen.{asks_auto};
 ghost use Rattle.qh_request.specs.Jobs.{request, keeping, Asks, Takes};
 ghost use Rattle.qh_request.specs.Refusals.{Refuses, Reading, RefusesAll, SourceRises, JournalRefuses};
 ghost use Rattle.qh_request.specs.Request.{Prints, PrintsAsked, RunIsWhole, EndsWholeBy, AnyGrants, EndsEarly, Answers, FaultCame, FaultFirst};
-ghost use Rattle.qh_tell.specs.declared.stop.Refusal.{Refusal as RefusalValue};
-ghost use Rattle.qh_tell.specs.declared.stop.JournalRefusal.{JournalRefusal as JournalRefusalValue};
+ghost use Rattle.qh_request.specs.declared.stop.Refusal.{Refusal as RefusalValue};
+ghost use Rattle.qh_request.specs.declared.stop.JournalRefusal.{JournalRefusal as JournalRefusalValue};
 ghost use Rattle.qh_request.specs.Outcomes.{MayStop, Stops, TellsTable, Tells};
 
 use crate::shared_call::answered_shared;

@@ -12,10 +12,9 @@ ghost use Rattle.qh_uncut.specs.Faults.{IsCause};
 
 use crate::fault::UncutFault;
 use qh_gates::{Circuit, Gate, arity, matrix1, matrix2};
-use qh_half::Half;
+use qh_half::{Half, Steps};
 use qh_kernel::Over;
 use qh_ring::Omega;
-use qh_steps::Steps;
 use std::alloc::{AllocError, Global};
 use std::marker::Brand;
 use std::sync::ledger::{Blank, Ledger};

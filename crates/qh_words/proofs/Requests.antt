@@ -9,7 +9,7 @@ use Rattle.clap.specs.Words.{Text, HasMatchesOf, fault_of}
 use Rattle.clap.specs.declared.parser.matches.ArgMatches.{ArgMatches}
 use Rattle.qh_words.specs.Command.{command, given, is_taken, program, value_in}
 use Rattle.qh_limits.specs.Limits.{max_lease, max_workers}
-use Rattle.qh_decimal.specs.Decimal.{is_decimal, number_below, value_of}
+use Rattle.qh_text.specs.Decimal.{is_decimal, number_below, value_of}
 use Rattle.qh_words.specs.Request.{HasWorkers, Values, asked, is_number, is_number_from, number_or, has_cut, has_journal, has_numbers, has_prob, has_source, is_set, options_by, options_of}
 use Rattle.qh_words.specs.Size.{IsGenSize}
 use Rattle.qh_words.specs.declared.options.Options.{Options}

@@ -2,7 +2,7 @@
 use Rattle.std.specs.Prelude.{ℕ, ◌+◌, ◌≤◌, ◌&&◌, ◌||◌, Bool, true, false, not, nat_le}
 use Rattle.std.specs.Prelude.{bytes_eq, List, Option, Some, None, is_some, codes, option_map, option_and_then, if◌then◌else◌}
 use Rattle.std.specs.Option.{option_map_or}
-use Rattle.qh_decimal.specs.Decimal.{number_below, value_of}
+use Rattle.qh_text.specs.Decimal.{number_below, value_of}
 use Rattle.qh_limits.specs.Limits.{max_crossing, max_lease, max_workers}
 use Rattle.qh_words.specs.Command.{given, is_taken}
 use Rattle.qh_words.specs.Size.{size_of}

@@ -3,14 +3,14 @@
 ghost use Rattle.std.specs.Prelude.{◌≡◌, IfSome, IsTrue, codes, is_some, option_map};
 ghost use Rattle.std.specs.Option.{SomeIff, option_copied};
 ghost use Rattle.qh_limits.specs.Limits.{max_lease, max_workers};
-ghost use Rattle.qh_decimal.specs.Decimal.{value_of};
+ghost use Rattle.qh_text.specs.Decimal.{value_of};
 ghost use Rattle.qh_words.specs.Command.{value_in};
 ghost use Rattle.qh_words.specs.Request.{has_numbers, is_number, is_number_from, number_or};
 
 use crate::command::value;
 use clap::ArgMatches;
-use qh_decimal::number_of;
 use qh_limits::{MAX_CROSSING, MAX_LEASE, MAX_WORKERS};
+use qh_text::number_of;
 
 /// The numbers that the options give or leave to their defaults.
 #[derive(Clone, Copy)]

@@ -4,9 +4,9 @@ ghost use Rattle.std.specs.Arc.{arc_value};
 ghost use Rattle.qh_plan.specs.Jobs.{IsJob, prefixes, ranges};
 ghost use Rattle.qh_plan.specs.Ranges.{prefix_of};
 
+use qh_half::Steps;
 use qh_plan::Job;
 use qh_prefix::{Checkpoint, PrefixCache, make_checkpoint};
-use qh_steps::Steps;
 use std::alloc::{AllocError, Global};
 use std::sync::ledger::Ledger;
 use std::sync::{Arc, Mutex, Wait};

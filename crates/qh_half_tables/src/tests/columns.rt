@@ -3,13 +3,13 @@
 ghost use Rattle.std.specs.Prelude.{◌≤◌, ◌↔◌, ◌≡◌, ◌^◌, All, IsTrue};
 ghost use Rattle.qh_limits.specs.Limits.{coefficient_bits};
 ghost use Rattle.qh_ring.specs.Numbers.{IsWithin};
-ghost use Rattle.qh_tiles.specs.Turns.{IsTurnIn};
+ghost use Rattle.qh_passes.specs.Turns.{IsTurnIn};
 
 use super::turns::{are_single_rows, is_turn_in};
 use qh_limits::COEFFICIENT_BITS;
 use qh_narrow::{Columns, Columns16, Columns32, Wide};
+use qh_passes::Turn;
 use qh_ring::{Entry, Mat2, Mat4, Omega, within};
-use qh_tiles::Turn;
 use std::alloc::Global;
 use std::process::Abort;
 use std::test::Fail;

@@ -4,10 +4,9 @@ ghost use Rattle.qh_limits.specs.Limits.{coefficient_bits};
 ghost use Rattle.qh_ring.specs.Numbers.{IsWithin};
 ghost use Rattle.qh_kernel.specs.Rows.{are_single};
 
-use qh_half::{Half, Over};
+use qh_half::{Half, Over, Steps};
 use qh_limits::COEFFICIENT_BITS;
 use qh_ring::{Entry, Mat2, Mat4, Omega, within};
-use qh_steps::Steps;
 use std::alloc::Global;
 use std::marker::Brand;
 use std::process::Abort;

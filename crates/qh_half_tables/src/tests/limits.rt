@@ -2,9 +2,8 @@
 ghost use Rattle.std.specs.Prelude.{◌≡◌, ◌<◌, IsTrue};
 ghost use Rattle.qh_kernel.specs.Rows.{are_single};
 
-use qh_half::{Half, Over};
+use qh_half::{Half, Over, Steps};
 use qh_ring::{Entry, Mat2, Mat4, Omega};
-use qh_steps::Steps;
 use std::alloc::Global;
 use std::marker::Brand;
 use std::process::Abort;

@@ -2,14 +2,13 @@
 ghost use Rattle.std.specs.Prelude.{◌≡◌, ◌≤◌, ◌<◌, ◌+◌, ◌^◌, All, length, IsTrue, IfSome};
 ghost use Rattle.qh_limits.specs.Limits.{max_part_qubits};
 ghost use Rattle.qh_blocks.specs.Blocks.{IsBlock};
-ghost use Rattle.qh_tiles.specs.Turns.{IsTurnIn, width_turned, width_after_turns};
+ghost use Rattle.qh_passes.specs.Turns.{IsTurnIn, width_turned, width_after_turns};
 
 use super::turns::is_turn_in;
 use qh_blocks::{Block, ground_blocks};
-use qh_passes::{apply1, apply2};
+use qh_kernel::Vector;
+use qh_passes::{Turn, apply_run, apply1, apply2};
 use qh_ring::{Entry, Mat2, Mat4};
-use qh_tiles::{Turn, apply_run};
-use qh_vectors::Vector;
 use std::alloc::{AllocError, Global};
 use std::simd::i16x16;
 use std::test::Fail;

@@ -1,10 +1,10 @@
 //! What the kernels ask of a matrix and of a turn, as tests of their own.
 ghost use Rattle.std.specs.Prelude.{◌≤◌, ◌↔◌, length, IsTrue};
 ghost use Rattle.qh_kernel.specs.Rows.{is_single, are_single};
-ghost use Rattle.qh_tiles.specs.Turns.{IsTurnIn};
+ghost use Rattle.qh_passes.specs.Turns.{IsTurnIn};
 
+use qh_passes::Turn;
 use qh_ring::{Entry, Mat4};
-use qh_tiles::Turn;
 
 fn is_single_row(row: &[Entry]) -> bool
     requires { length row.now ≤ 4 }

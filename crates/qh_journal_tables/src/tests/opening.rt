@@ -5,8 +5,7 @@ ghost use Rattle.qh_plan.specs.Jobs.{ranges};
 
 use qh_disk::MemDisk;
 use qh_job_text::read_job_text;
-use qh_migrate::OldRefusal;
-use qh_open::{OpenFault, open_journal};
+use qh_migrate::{OldRefusal, OpenFault, open_journal};
 use qh_plan::Job;
 use qh_slots::AttachFault;
 use std::alloc::{AllocError, Global};

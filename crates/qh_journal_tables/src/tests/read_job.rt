@@ -1,6 +1,6 @@
 //! Bell's finished journal, and files that name no job.
 use qh_disk::MemDisk;
-use qh_read_job::{JobFault, read_job};
+use qh_parts::{JobFault, read_job};
 use std::alloc::{AllocError, Global};
 use std::process::Abort;
 use std::test::Fail;

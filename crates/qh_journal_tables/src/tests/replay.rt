@@ -1,7 +1,7 @@
 //! What no contract says: that calls succeed where there is memory, and hand-made courses.
+use qh_core::{Course, Noted};
 use qh_lease::Lease;
 use qh_limits::MAX_GRANTS;
-use qh_replay::{Course, Noted};
 use std::process::Abort;
 use std::test::Fail;
 

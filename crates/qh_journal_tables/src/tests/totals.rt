@@ -6,7 +6,7 @@ use qh_job_text::read_job_text;
 use qh_limits::COEFFICIENT_BITS;
 use qh_plan::{Job, Sums, Verdict};
 use qh_ring::{Omega, within};
-use qh_totals::RunningTotal;
+use qh_slots::RunningTotal;
 use std::alloc::Global;
 use std::process::Abort;
 use std::test::Fail;

@@ -1,7 +1,7 @@
 //! Journals of both prefix values of a small circuit, merged, and inputs that are not.
 use qh_disk::MemDisk;
 use qh_limits::MAX_INPUTS;
-use qh_union::{MergeFault, Merged, merge};
+use qh_merge::{MergeFault, Merged, merge};
 use std::alloc::{AllocError, Global};
 use std::process::Abort;
 use std::test::Fail;

@@ -3,11 +3,10 @@ ghost use Rattle.std.specs.Prelude.{◌≡◌, ◌<◌, ◌≤◌, IsTrue};
 ghost use Rattle.qh_plan.specs.Plans.{AreBits};
 
 use qh_gates::{Circuit, Gate, Kind, arity};
-use qh_half::Half;
+use qh_half::{Half, Steps};
 use qh_plan::{Job, plan};
 use qh_prefix::{Checkpoint, PrefixCache, make_checkpoint};
 use qh_ring::Omega;
-use qh_steps::Steps;
 use std::alloc::{AllocError, Global};
 use std::marker::Brand;
 use std::process::Abort;

@@ -3,8 +3,8 @@ ghost use Rattle.std.specs.Prelude.{◌≡◌, ◌<◌, ◌≤◌, IsTrue};
 ghost use Rattle.qh_plan.specs.Plans.{AreBits};
 
 use qh_gates::{Circuit, Gate, Kind, arity};
-use qh_part::{Part, Placed, local_indices, part_width, place_gates};
 use qh_plan::{Job, plan};
+use qh_prefix::{Part, Placed, local_indices, part_width, place_gates};
 use std::alloc::{AllocError, Global};
 use std::process::Abort;
 use std::test::Fail;

@@ -4,11 +4,11 @@ ghost use Rattle.std.specs.Arc.{arc_value};
 ghost use Rattle.qh_plan.specs.Plans.{AreBits};
 
 use qh_gates::{Circuit, Gate, Kind, arity};
+use qh_half::Steps;
 use qh_plan::{Job, Verdict, plan};
 use qh_prefix::{Checkpoint, make_checkpoint};
 use qh_range::{RangeResult, Room, Ticket, evaluate};
 use qh_ring::Omega;
-use qh_steps::Steps;
 use std::alloc::{AllocError, Global};
 use std::marker::Brand;
 use std::process::Abort;

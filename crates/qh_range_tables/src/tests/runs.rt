@@ -3,9 +3,9 @@ ghost use Rattle.std.specs.Prelude.{◌≡◌, ◌<◌, ◌≤◌, IsTrue};
 ghost use Rattle.qh_plan.specs.Plans.{AreBits};
 
 use qh_gates::{Circuit, Gate, Kind, arity};
+use qh_half::Steps;
 use qh_plan::{Job, plan};
-use qh_solve::{Solved, solve};
-use qh_steps::Steps;
+use qh_range::{Solved, solve};
 use std::alloc::{AllocError, Global};
 use std::marker::Brand;
 use std::process::Abort;

@@ -1,6 +1,6 @@
 use Rattle.std.proofs.Common.{◌≡◌, ◌+ℤ◌, ap, ◌∙◌, arith}
 use Rattle.qh_ring.specs.declared.number.Omega.{Omega}
-use Rattle.qh_vectors.specs.Lanes.{at_lane}
+use Rattle.qh_kernel.specs.Lanes.{at_lane}
 use Rattle.qh_blocks.specs.Blocks.{lane}
 use Rattle.qh_blocks.proofs.FactorLemmas.{root_lane}
 use Rattle.qh_blocks.proofs.factor.grown.Goals as goal

@@ -2,8 +2,8 @@ use Rattle.std.proofs.Common.{arith, ◌<◌, ◌+◌, ◌^◌, ◌/◌, [], ◌
 use Rattle.qh_ring.specs.Matrices.{number_in}
 use Rattle.qh_kernel.proofs.PlaceLemmas.{rank}
 use Rattle.qh_kernel.proofs.GroupLemmas.{one_qubit, few_numbers, all_pairs}
-use Rattle.qh_vectors.specs.Lanes.{flipped}
-use Rattle.qh_vectors.proofs.BoundLemmas.{flipped_below}
+use Rattle.qh_kernel.specs.Lanes.{flipped}
+use Rattle.qh_kernel.proofs.BoundLemmas.{flipped_below}
 use Rattle.qh_blocks.specs.declared.block.Block.{Block}
 use Rattle.qh_blocks.specs.Blocks.{lane}
 use Rattle.qh_blocks.specs.Numbers.{number_at}

@@ -1,7 +1,7 @@
 use Rattle.std.proofs.Common.{◌∙◌}
 use Rattle.std.proofs.Math.Path.{ap₂}
 use Rattle.qh_ring.specs.declared.number.Omega.{Omega}
-use Rattle.qh_vectors.specs.Lanes.{chosen}
+use Rattle.qh_kernel.specs.Lanes.{chosen}
 use Rattle.qh_blocks.specs.Blocks.{lane}
 use Rattle.qh_blocks.specs.Numbers.{row_of_four}
 use Rattle.qh_blocks.proofs.quads.new_high_low.Goals as goal

@@ -1,8 +1,8 @@
 use Rattle.std.proofs.Common.{refl, ◌<◌, ◌^◌, ◌∙◌}
 use Rattle.std.proofs.Math.Path.{ap₂}
 use Rattle.qh_ring.specs.Matrices.{number_in}
-use Rattle.qh_vectors.specs.Lanes.{flipped, chosen}
-use Rattle.qh_vectors.proofs.BoundLemmas.{flipped_below}
+use Rattle.qh_kernel.specs.Lanes.{flipped, chosen}
+use Rattle.qh_kernel.proofs.BoundLemmas.{flipped_below}
 use Rattle.qh_blocks.specs.Blocks.{lane}
 use Rattle.qh_blocks.proofs.QuadLemmas.{four_columns, low_low_value}
 use Rattle.qh_blocks.proofs.quads.new_low_low.Goals as goal

@@ -1,6 +1,6 @@
 use Rattle.std.proofs.Common.{◌≡◌, ◌<◌, ◌≤◌, ◌+◌, ℕ, true, false, length, subst, sym, ap, ◌∙◌, arith, rules}
-use Rattle.qh_counts.specs.Counts.{Rose, RoseBy}
-use Rattle.qh_counts.proofs.Chains.{rose_more}
+use Rattle.qh_limits.specs.Counts.{Rose, RoseBy}
+use Rattle.qh_limits.proofs.Chains.{rose_more}
 use Rattle.qh_lease.specs.Lease.{lease_at, grants_of, count_out, IsLowest, NonePasses, may_grant_out}
 use Rattle.qh_lease.proofs.Outs.{count_out-lowest, count_out-past, count_out-none}
 use Rattle.qh_board.proofs.LateLemmas.{not_due_below, not_due_past, not_due_all}

@@ -1,5 +1,5 @@
 use Rattle.std.proofs.Common.{◌≡◌, ◌≤◌, ◌-◌, length}
-use Rattle.qh_counts.specs.Counts.{RoseBy}
+use Rattle.qh_limits.specs.Counts.{RoseBy}
 use Rattle.qh_lease.specs.Lease.{count_out}
 use Rattle.qh_board.specs.Claims.{AreNotDue}
 use Rattle.qh_board.proofs.choice.next_late.Given as goal

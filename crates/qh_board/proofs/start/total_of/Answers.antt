@@ -2,7 +2,7 @@ use Rattle.std.proofs.Common.{◌≡◌, ◌<◌, ◌+◌, ℕ, length, Some, No
 use Rattle.std.specs.Prelude.{option_map}
 use Rattle.qh_plan.specs.Jobs.{Job, ranges}
 use Rattle.qh_slots.specs.Stands.{slot_at, AllFit}
-use Rattle.qh_totals.specs.Running.{Running}
+use Rattle.qh_slots.specs.Running.{Running}
 use Rattle.qh_board.proofs.StartLemmas.{IsTotalBelow, total_bare, total_next, total_added, total_all}
 use Rattle.qh_board.proofs.start.total_of.Goals as goal
 use Rattle.qh_board.proofs.start.total_of.Goals.{in-Some, in_default}

@@ -1,5 +1,5 @@
 use Rattle.std.proofs.Common.{◌≡◌, ◌≤◌, length, Some, None, sym, ap, subst, ◌∙◌}
-use Rattle.qh_lines.specs.Words.{words_of}
+use Rattle.qh_text.specs.LineWords.{words_of}
 use Rattle.qh_gates.specs.declared.gate.Gate.{Gate}
 use Rattle.qh_gates.specs.Circuits.{Circuit, Fits}
 use Rattle.qh_circuit.specs.GateLines.{kept}

@@ -1,7 +1,7 @@
 use Rattle.std.proofs.Common.{◌≡◌, ℕ, ◌^◌, ◌<◌, [], ◌++◌, take, drop, decimal, arith, sym, ap, subst, ◌∙◌, append-nil, lit<}
 use Rattle.std.specs.List.{flat_map}
 use Rattle.std.proofs.lemmas.List.{take_at, drop_at, take_all, take_rest}
-use Rattle.qh_decimal.specs.Decimal.{number_below}
+use Rattle.qh_text.specs.Decimal.{number_below}
 use Rattle.qh_plan.specs.Texts.{word}
 use Rattle.qh_text.proofs.CutLemmas.{Without, empty, split_is, stands}
 use Rattle.qh_text.proofs.NumberLemmas.{decimal_without}

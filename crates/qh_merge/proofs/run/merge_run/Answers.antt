@@ -1,5 +1,5 @@
 use Rattle.std.proofs.Common.{sym, ◌∙◌}
-use Rattle.qh_say.specs.Saying.{Says, seen}
+use Rattle.qh_io.specs.Saying.{Says, seen}
 use Rattle.qh_merge.proofs.EndLemmas.{is_over, is_printed}
 use Rattle.qh_merge.proofs.run.merge_run.Goals as goal
 

@@ -1,5 +1,5 @@
 use Rattle.std.proofs.Common.{sym, ap, subst}
-use Rattle.qh_say.specs.Saying.{Says}
+use Rattle.qh_io.specs.Saying.{Says}
 use Rattle.qh_merge.specs.Ends.{line_of}
 use Rattle.qh_merge.proofs.say.tell.Goals as goal
 

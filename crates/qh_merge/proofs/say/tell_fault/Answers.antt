@@ -1,7 +1,7 @@
 use Rattle.std.proofs.Common.{◌++◌, ℕ, decimal, sym, ap, subst, ◌∙◌}
 use Rattle.std.specs.Prelude.{codes}
 use Rattle.std.proofs.Math.Path.{ap₂}
-use Rattle.qh_say.specs.Saying.{Says}
+use Rattle.qh_io.specs.Saying.{Says}
 use Rattle.qh_merge.specs.Ends.{fault_line}
 use Rattle.qh_merge.proofs.say.tell_fault.Goals as goal
 

@@ -2,8 +2,8 @@ use Rattle.std.proofs.Common.{ℕ, ◌<◌, ◌-◌, ◌^◌, take, arith, subst
 use Rattle.std.specs.List.{All}
 use Rattle.std.proofs.lemmas.List.Elements.{All-take}
 use Rattle.qh_blocks.specs.Blocks.{IsBlock}
-use Rattle.qh_tiles.specs.Turns.{IsTurnIn}
-use Rattle.qh_tiles.proofs.StayLemmas.{run_stays}
+use Rattle.qh_passes.specs.Turns.{IsTurnIn}
+use Rattle.qh_passes.proofs.StayLemmas.{run_stays}
 use Rattle.qh_narrow.specs.Columns.{first_numbers}
 use Rattle.qh_narrow.proofs.WithinLemmas.{first_below, first_within}
 use Rattle.qh_narrow.proofs.TilesLemmas.{some_high, run_first, run_blocks}

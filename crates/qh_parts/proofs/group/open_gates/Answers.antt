@@ -7,7 +7,7 @@ use Rattle.qh_disk.specs.Moments.{EachImage}
 use Rattle.qh_slots.specs.Stands.{Slots, Stands, Holds, Behind}
 use Rattle.qh_parts.specs.Groups.{AreValues, IsGroup, filled, range_of, member_of, unused}
 use Rattle.qh_parts.specs.declared.member.Member.{Member}
-use Rattle.qh_meaning.specs.Values.{range_value}
+use Rattle.qh_plan.specs.Values.{range_value}
 use Rattle.qh_parts.proofs.PartLemmas.{spares_on, made_on, goes_on}
 use Rattle.qh_parts.proofs.GroupLemmas.{filled_more, partly_from}
 use Rattle.qh_parts.proofs.PlaceLemmas.{at_place, below_room}

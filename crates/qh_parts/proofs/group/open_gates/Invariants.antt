@@ -3,7 +3,7 @@ use Rattle.qh_disk.specs.Disk.{Reads}
 use Rattle.qh_disk.specs.Moments.{EachImage, Lasts}
 use Rattle.qh_plan.specs.declared.verdict.Verdict.{Verdict}
 use Rattle.qh_slots.specs.Stands.{Slots, Stands, Made, Holds, Behind}
-use Rattle.qh_record.specs.Moments.{GoesOn}
+use Rattle.qh_slots.specs.Moments.{GoesOn}
 use Rattle.qh_parts.specs.Sparing.{Spares}
 use Rattle.qh_parts.specs.Groups.{AreValues, filled, range_of, member_of}
 use Rattle.qh_parts.proofs.group.open_gates.Given as goal

@@ -3,7 +3,7 @@ use Rattle.qh_disk.specs.Disk.{Reads}
 use Rattle.qh_disk.specs.Moments.{EachImage, Lasts}
 use Rattle.qh_slots.specs.Layout.{body_size}
 use Rattle.qh_slots.specs.Stands.{Slots, Stands, Made, Shut, Behind}
-use Rattle.qh_record.specs.Moments.{GoesOn}
+use Rattle.qh_slots.specs.Moments.{GoesOn}
 use Rattle.qh_parts.specs.Sparing.{Spares}
 use Rattle.qh_parts.specs.Groups.{range_of, member_of}
 use Rattle.qh_parts.proofs.group.write_bodies.Given as goal

@@ -3,11 +3,11 @@ use Rattle.std.proofs.Math.Path.{subst₂}
 use Rattle.std.specs.List.{AllZip}
 use Rattle.std.specs.Arc.{arc_value}
 use Rattle.qh_plan.specs.Jobs.{Job, IsJob}
-use Rattle.qh_part.specs.declared.part.Part.TheVariants.{One, Two}
-use Rattle.qh_part.specs.declared.stage.Stage.TheVariants.{Prefix}
-use Rattle.qh_part.specs.Parts.{in_part, acts_in}
-use Rattle.qh_part.specs.Places.{term_counts}
-use Rattle.qh_part.specs.Stages.{stage_gates, stage_radices}
+use Rattle.qh_prefix.specs.declared.part.Part.TheVariants.{One, Two}
+use Rattle.qh_prefix.specs.declared.stage.Stage.TheVariants.{Prefix}
+use Rattle.qh_prefix.specs.Parts.{in_part, acts_in}
+use Rattle.qh_prefix.specs.Places.{term_counts}
+use Rattle.qh_prefix.specs.Stages.{stage_gates, stage_radices}
 use Rattle.qh_prefix.specs.Checkpoints.{Checkpoint, IsCheckpoint, prefix_digits}
 use Rattle.qh_prefix.specs.Starts.{IsStart}
 use Rattle.qh_prefix.proofs.HalfLemmas.{start_takes, at_prefix, start_steps}

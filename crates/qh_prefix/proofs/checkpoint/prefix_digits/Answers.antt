@@ -2,8 +2,8 @@ use Rattle.std.proofs.Common.{◌≡◌, ◌*◌, ◌/◌, ◌<◌, take, sym, a
 use Rattle.std.proofs.Math.Path.{ap₂}
 use Rattle.std.specs.List.{AllZip}
 use Rattle.qh_plan.specs.Jobs.{paths, digits_of, job_radices}
-use Rattle.qh_part.specs.declared.stage.Stage.TheVariants.{Prefix}
-use Rattle.qh_part.proofs.StageLemmas.{stretch_below}
+use Rattle.qh_prefix.specs.declared.stage.Stage.TheVariants.{Prefix}
+use Rattle.qh_prefix.proofs.StageLemmas.{stretch_below}
 use Rattle.qh_prefix.proofs.DigitLemmas.{share, share_is, path_below, first_of_prefix}
 use Rattle.qh_prefix.proofs.checkpoint.prefix_digits.Goals as goal
 

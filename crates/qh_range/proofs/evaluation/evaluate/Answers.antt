@@ -1,8 +1,8 @@
 use Rattle.std.proofs.Common.{arith, ◌≡◌, ◌+◌, ◌≤◌, ℕ, subst}
 use Rattle.std.specs.Arc.{arc_value}
 use Rattle.qh_plan.specs.Jobs.{Job}
-use Rattle.qh_part.specs.declared.stage.Stage.TheVariants.{Prefix}
-use Rattle.qh_part.specs.Stages.{stage_steps}
+use Rattle.qh_prefix.specs.declared.stage.Stage.TheVariants.{Prefix}
+use Rattle.qh_prefix.specs.Stages.{stage_steps}
 use Rattle.qh_range.specs.Steps.{range_steps, whole_steps}
 use Rattle.qh_range.proofs.evaluation.evaluate.Goals as goal
 

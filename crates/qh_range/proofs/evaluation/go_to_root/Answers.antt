@@ -1,10 +1,10 @@
 use Rattle.std.proofs.Common.{arith, ◌≡◌, ◌<◌, sym, ap, subst, ◌∙◌}
 use Rattle.std.specs.List.{AllZip}
 use Rattle.qh_plan.specs.Jobs.{paths, first_path, digits_of}
-use Rattle.qh_part.specs.declared.part.Part.TheVariants.{One, Two}
-use Rattle.qh_part.specs.declared.stage.Stage.TheVariants.{Root}
-use Rattle.qh_part.specs.Stages.{stretch, stage_radices}
-use Rattle.qh_part.proofs.StageLemmas.{stretch_below}
+use Rattle.qh_prefix.specs.declared.part.Part.TheVariants.{One, Two}
+use Rattle.qh_prefix.specs.declared.stage.Stage.TheVariants.{Root}
+use Rattle.qh_prefix.specs.Stages.{stretch, stage_radices}
+use Rattle.qh_prefix.proofs.StageLemmas.{stretch_below}
 use Rattle.qh_range.specs.Sides.{root_digits}
 use Rattle.qh_range.proofs.RootLemmas.{path_below, root_same, first_in_range}
 use Rattle.qh_range.proofs.SideLemmas.{takes_root, at_root, root_steps}

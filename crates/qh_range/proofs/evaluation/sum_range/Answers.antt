@@ -4,11 +4,11 @@ use Rattle.qh_ring.specs.declared.number.Omega.{Omega}
 use Rattle.qh_ring.specs.Numbers.{IsWithin}
 use Rattle.qh_plan.specs.declared.verdict.Verdict.TheVariants.{Sum}
 use Rattle.qh_plan.specs.Verdicts.{added}
-use Rattle.qh_meaning.specs.Halves.{contribution}
+use Rattle.qh_plan.specs.Halves.{contribution}
 use Rattle.qh_half.specs.Halves.{Half}
-use Rattle.qh_part.specs.declared.part.Part.TheVariants as Parts
-use Rattle.qh_part.specs.declared.stage.Stage.TheVariants.{Suffix}
-use Rattle.qh_part.specs.Stages.{stage_steps}
+use Rattle.qh_prefix.specs.declared.part.Part.TheVariants as Parts
+use Rattle.qh_prefix.specs.declared.stage.Stage.TheVariants.{Suffix}
+use Rattle.qh_prefix.specs.Stages.{stage_steps}
 use Rattle.qh_range.specs.Sides.{IsAtRoot}
 use Rattle.qh_range.proofs.ValueLemmas.{IsSummed, summed_none, summed_more, summed_within, written_whole, range_over, range_sum, steps_more}
 use Rattle.qh_range.proofs.evaluation.sum_range.Goals as goal

@@ -1,7 +1,7 @@
 use Rattle.std.proofs.Common.{◌≡◌, ◌+◌, ◌*◌, ◌≤◌}
-use Rattle.qh_part.specs.declared.part.Part.TheVariants as Parts
-use Rattle.qh_part.specs.declared.stage.Stage.TheVariants.{Suffix}
-use Rattle.qh_part.specs.Stages.{stage_steps}
+use Rattle.qh_prefix.specs.declared.part.Part.TheVariants as Parts
+use Rattle.qh_prefix.specs.declared.stage.Stage.TheVariants.{Suffix}
+use Rattle.qh_prefix.specs.Stages.{stage_steps}
 use Rattle.qh_range.specs.Sides.{IsSide}
 use Rattle.qh_range.proofs.ValueLemmas.{IsSummed}
 use Rattle.qh_range.proofs.evaluation.sum_range.Given as goal

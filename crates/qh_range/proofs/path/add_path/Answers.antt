@@ -2,10 +2,10 @@ use Rattle.std.proofs.Common.{arith, ◌≡◌, ◌<◌, refl, sym, ap, subst, �
 use Rattle.std.specs.List.{AllZip}
 use Rattle.std.proofs.lemmas.Bool.{both_ways}
 use Rattle.qh_plan.specs.Jobs.{digits_of}
-use Rattle.qh_part.specs.declared.part.Part.TheVariants.{One, Two}
-use Rattle.qh_part.specs.declared.stage.Stage.TheVariants.{Suffix}
-use Rattle.qh_part.specs.Stages.{stretch, stage_radices}
-use Rattle.qh_part.proofs.StageLemmas.{stretch_below}
+use Rattle.qh_prefix.specs.declared.part.Part.TheVariants.{One, Two}
+use Rattle.qh_prefix.specs.declared.stage.Stage.TheVariants.{Suffix}
+use Rattle.qh_prefix.specs.Stages.{stretch, stage_radices}
+use Rattle.qh_prefix.proofs.StageLemmas.{stretch_below}
 use Rattle.qh_range.specs.Sides.{end_of}
 use Rattle.qh_range.proofs.RootLemmas.{path_below}
 use Rattle.qh_range.proofs.SideLemmas.{takes_suffix, holds, suffix_steps}

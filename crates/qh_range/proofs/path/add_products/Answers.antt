@@ -3,9 +3,9 @@ use Rattle.std.proofs.Math.Path.{ap₂}
 use Rattle.qh_ring.specs.declared.number.Omega.{Omega}
 use Rattle.qh_ring.specs.Numbers.{sum, product, IsWithin}
 use Rattle.qh_plan.specs.Jobs.{Job}
-use Rattle.qh_meaning.specs.Limits.{are_narrow}
-use Rattle.qh_meaning.proofs.LimitLemmas.{narrow_from, not_narrow, product_within}
-use Rattle.qh_part.specs.declared.part.Part.TheVariants as Parts
+use Rattle.qh_plan.specs.MeaningLimits.{are_narrow}
+use Rattle.qh_plan.proofs.LimitLemmas.{narrow_from, not_narrow, product_within}
+use Rattle.qh_prefix.specs.declared.part.Part.TheVariants as Parts
 use Rattle.qh_range.specs.declared.side.Side.{Side}
 use Rattle.qh_range.specs.Sides.{end_of, number_at}
 use Rattle.qh_range.proofs.ProductLemmas.{added_more, added_all, added_fails, index_below, number_is}

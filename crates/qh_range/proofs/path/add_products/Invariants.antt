@@ -1,6 +1,6 @@
 use Rattle.qh_ring.specs.Numbers.{product}
-use Rattle.qh_meaning.specs.Limits.{are_narrow}
-use Rattle.qh_part.specs.declared.part.Part.TheVariants as Parts
+use Rattle.qh_plan.specs.MeaningLimits.{are_narrow}
+use Rattle.qh_prefix.specs.declared.part.Part.TheVariants as Parts
 use Rattle.qh_range.specs.Sides.{end_of, number_at}
 use Rattle.qh_range.proofs.ProductLemmas.{IsAdded}
 use Rattle.qh_range.proofs.path.add_products.Given as goal

@@ -1,7 +1,7 @@
 use Rattle.std.proofs.Common.{arith, ◌≡◌, ◌≢◌, [], length, vec_len, sym, ap, ◌∙◌}
 use Rattle.std.proofs.lemmas.List.{nil_from_length}
 use Rattle.std.proofs.lemmas.Bool.{eqb-true, eqb-false}
-use Rattle.qh_part.specs.declared.place.Placed.{Placed}
+use Rattle.qh_prefix.specs.declared.place.Placed.{Placed}
 use Rattle.qh_range.proofs.SideLemmas.{end_at_root, end_at_half}
 use Rattle.qh_range.proofs.side.end_of.Goals as goal
 

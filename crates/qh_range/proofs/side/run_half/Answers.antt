@@ -1,9 +1,9 @@
 use Rattle.std.proofs.Common.{arith, ◌≡◌, [], length, vec_len, sym, ap, subst, ◌∙◌}
 use Rattle.std.proofs.lemmas.List.{nil_from_length}
 use Rattle.std.proofs.lemmas.Bool.{eqb-true, eqb-false}
-use Rattle.qh_part.specs.declared.place.Placed.{Placed}
-use Rattle.qh_part.specs.Places.{operations}
-use Rattle.qh_part.specs.Runs.{IsAfter}
+use Rattle.qh_prefix.specs.declared.place.Placed.{Placed}
+use Rattle.qh_prefix.specs.Places.{operations}
+use Rattle.qh_prefix.specs.Runs.{IsAfter}
 use Rattle.qh_range.specs.Sides.{path_end}
 use Rattle.qh_range.proofs.SideLemmas.{after_none, end_at_half}
 use Rattle.qh_range.proofs.side.run_half.Goals as goal

@@ -2,7 +2,7 @@ use Rattle.std.proofs.Common.{◌≡◌, ◌∙◌, inl, sym, subst, false, code
 use Rattle.std.proofs.lemmas.Bool.{false_from_ne_true}
 use Rattle.std.proofs.lemmas.Slice.Eq.{bytes_eq-Decides}
 use Rattle.qh_plan.specs.declared.fault.PlanFault.TheVariants.{PartText}
-use Rattle.qh_tell.specs.declared.stop.Refusal.TheVariants.{Plan}
+use Rattle.qh_request.specs.declared.stop.Refusal.TheVariants.{Plan}
 use Rattle.qh_request.specs.Chosen.{is_auto}
 use Rattle.qh_request.specs.Refusals.{PlanRefusesBy, PartRefuses}
 use Rattle.qh_request.proofs.laws.bad_part_is_refused.Goals as goal

@@ -2,7 +2,7 @@ use Rattle.std.proofs.Common.{◌≡◌, List, length, All, refl, sym, ap, subst
 use Rattle.std.proofs.Math.Path.{ap₂}
 use Rattle.qh_ring.specs.declared.number.Omega.{Omega}
 use Rattle.qh_plan.specs.declared.verdict.Verdict.TheVariants.{Sum, Over}
-use Rattle.qh_meaning.specs.Slots.{over_or}
+use Rattle.qh_plan.specs.Slots.{over_or}
 use Rattle.qh_limits.specs.Limits.{coefficient_bits}
 use Rattle.qh_ring.specs.Numbers.{IsWithin}
 use Rattle.qh_run.proofs.CompleteLemmas.{completes, over_or_is, sums_count}

@@ -3,17 +3,17 @@ use Rattle.std.specs.Prelude.{IfSome, Option}
 use Rattle.std.specs.Option.{ForSome}
 use Rattle.std.specs.Arc.{arc_value}
 use Rattle.qh_disk.specs.Disk.{Reads}
-use Rattle.qh_record.specs.Moments.{GoesOn}
+use Rattle.qh_slots.specs.Moments.{GoesOn}
 use Rattle.qh_board.specs.Board.{BeganWith}
 use Rattle.qh_run.specs.Ends.{answer_of, IsBounded}
 use Rattle.qh_run.specs.Carrying.{Completes}
-use Rattle.qh_counts.specs.Counts.{RoseBy}
+use Rattle.qh_limits.specs.Counts.{RoseBy}
 use Rattle.qh_plan.specs.Jobs.{Job, ranges}
 use Rattle.std.specs.List.{count_by}
-use Rattle.qh_record.specs.Record.{count_bare}
+use Rattle.qh_slots.specs.Record.{count_bare}
 use Rattle.qh_lease.specs.Lease.{is_fresh, NonePasses}
 use Rattle.qh_run.specs.Carrying.{count_fresh}
-use Rattle.qh_replay.specs.Replay.{CourseView, is_open}
+use Rattle.qh_core.specs.Replay.{CourseView, is_open}
 use Rattle.qh_run.proofs.CountLemmas.{bare_fresh}
 use Rattle.qh_run.proofs.CompleteLemmas.{journal_goes_on, disk_still, full_started}
 use Rattle.qh_run.proofs.over.run_by.Goals as goal

@@ -3,7 +3,7 @@ use Rattle.std.specs.Prelude.{IfSome}
 use Rattle.std.specs.Option.{ForSome}
 use Rattle.qh_plan.specs.Jobs.{Job}
 use Rattle.qh_disk.specs.Disk.{Reads}
-use Rattle.qh_record.specs.Moments.{GoesOn}
+use Rattle.qh_slots.specs.Moments.{GoesOn}
 use Rattle.qh_board.specs.Board.{BeganWith}
 use Rattle.qh_run.specs.Ends.{answer_of}
 use Rattle.qh_run.specs.Carrying.{Completes}

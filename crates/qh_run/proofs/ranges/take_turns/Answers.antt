@@ -1,6 +1,6 @@
 use Rattle.std.proofs.Common.{◌≡◌, ◌≤◌, ◌+◌, ℕ, Bool, true, false, arith, subst, sym, ◌∙◌}
-use Rattle.qh_counts.specs.Counts.{RoseBy}
-use Rattle.qh_counts.proofs.Chains.{rose_more, rose_by_fewer, rose_by_none}
+use Rattle.qh_limits.specs.Counts.{RoseBy}
+use Rattle.qh_limits.proofs.Chains.{rose_more, rose_by_fewer, rose_by_none}
 use Rattle.qh_run.specs.Carrying.{Carries, count_fresh, Turned}
 use Rattle.qh_run.proofs.CarryLemmas.{carries_on, carries_same, stop_later}
 use Rattle.qh_run.proofs.ranges.take_turns.Goals as goal

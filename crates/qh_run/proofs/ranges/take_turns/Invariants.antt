@@ -1,5 +1,5 @@
 use Rattle.std.proofs.Common.{◌≡◌, ◌≤◌, ◌+◌, None}
-use Rattle.qh_counts.specs.Counts.{RoseBy}
+use Rattle.qh_limits.specs.Counts.{RoseBy}
 use Rattle.qh_run.specs.Carrying.{Carries, count_fresh}
 use Rattle.qh_run.proofs.ranges.take_turns.Given as goal
 

@@ -1,5 +1,5 @@
 use Rattle.std.proofs.Common.{◌≡◌, sym, ap, subst, MutBor}
-use Rattle.qh_counts.specs.Counts.{Rose}
+use Rattle.qh_limits.specs.Counts.{Rose}
 use Rattle.qh_lease.specs.Lease.{is_fresh}
 use Rattle.qh_board.proofs.BoardLemmas.{next_known}
 use Rattle.qh_run.proofs.CountLemmas.{none_counted, fresh_turn}

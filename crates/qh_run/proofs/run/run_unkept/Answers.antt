@@ -1,8 +1,8 @@
 use Rattle.std.proofs.Common.{◌≡◌, ap, subst, ◌∙◌}
 use Rattle.std.specs.Arc.{arc_value}
-use Rattle.qh_counts.specs.Counts.{RoseBy}
+use Rattle.qh_limits.specs.Counts.{RoseBy}
 use Rattle.qh_disk.specs.History.{face_of}
-use Rattle.qh_record.specs.Record.{count_bare}
+use Rattle.qh_slots.specs.Record.{count_bare}
 use Rattle.qh_run.proofs.KeptLemmas.{unkept_whole, unkept_ends}
 use Rattle.qh_run.proofs.CountLemmas.{bare_nones}
 use Rattle.qh_run.proofs.run.run_unkept.Goals as goal

@@ -1,7 +1,7 @@
 use Rattle.std.proofs.Common.{◌≡◌, ◌≤◌, ◌<◌, ◌+◌, ◌∷◌, ◌++◌, [], ℕ, List, length, refl, arith, sym, ap, subst, ◌∙◌}
 use Rattle.qh_plan.specs.Jobs.{Job, ranges}
 use Rattle.qh_lease.specs.Lease.{IsLowest}
-use Rattle.qh_replay.specs.Replay.{is_open}
+use Rattle.qh_core.specs.Replay.{is_open}
 use Rattle.qh_range.specs.Results.{RangeResult}
 use Rattle.qh_run.specs.Sweeping.{IsGathered}
 use Rattle.qh_run.proofs.SweepLemmas.{gathered_none, gathered_more, gathered_rest, length_push, forward_more}

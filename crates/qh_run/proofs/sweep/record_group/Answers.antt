@@ -1,7 +1,7 @@
 use Rattle.std.proofs.Common.{◌≡◌, ℕ, List, false, sym, ap, subst, ◌∙◌}
 use Rattle.qh_lease.specs.declared.lease.Lease.{Lease}
 use Rattle.qh_lease.specs.Lease.{lease_at}
-use Rattle.qh_replay.specs.Replay.{CourseView, is_open}
+use Rattle.qh_core.specs.Replay.{CourseView, is_open}
 use Rattle.qh_range.specs.Results.{RangeResult}
 use Rattle.qh_board.specs.Groups.{kept, all_acknowledged}
 use Rattle.qh_run.proofs.CarryLemmas.{stays_carries}

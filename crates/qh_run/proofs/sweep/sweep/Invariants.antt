@@ -1,7 +1,7 @@
 use Rattle.std.proofs.Common.{◌≡◌, ◌<◌, ◌-◌, ℕ, false, None}
 use Rattle.qh_plan.specs.Jobs.{ranges}
 use Rattle.qh_lease.specs.Lease.{lease_at}
-use Rattle.qh_replay.specs.Replay.{is_open}
+use Rattle.qh_core.specs.Replay.{is_open}
 use Rattle.qh_run.specs.Carrying.{Carries}
 use Rattle.qh_run.proofs.sweep.sweep.Given as goal
 

@@ -1,7 +1,7 @@
 use Rattle.std.proofs.Common.{◌≡◌, List, ℕ, Option, sym, ap, subst, ◌∙◌}
 use Rattle.std.specs.Arc.{arc_value}
-use Rattle.qh_open.specs.Opening.{Opens, keeping}
-use Rattle.qh_open.proofs.OptionLemmas.{Has, and_has, has_is_some}
+use Rattle.qh_migrate.specs.Opening.{Opens, keeping}
+use Rattle.qh_migrate.proofs.OptionLemmas.{Has, and_has, has_is_some}
 use Rattle.qh_run.specs.Opened.{RunsOn}
 use Rattle.qh_run.proofs.KeptLemmas.{opened_keeps, opened_loans, opened_ends, opened_complete, opened_whole, unopened_none, unopened_some, unopened_ends, unopened_complete}
 use Rattle.qh_run_shared.proofs.run.run_kept_shared.Goals as goal

@@ -1,4 +1,4 @@
-use Rattle.qh_shared.proofs.FactLemmas.{named_now, was_shared}
+use Rattle.qh_run_shared.proofs.FactLemmas.{named_now, was_shared}
 use Rattle.qh_run_shared.proofs.working.work_shared.Goals as goal
 
 pub work_all-requires-clause-facts : goal.work_all-requires-clause-facts

@@ -1,4 +1,4 @@
-use Rattle.qh_shared.specs.Facts.{name_of}
+use Rattle.qh_run_shared.specs.Facts.{name_of}
 use Rattle.qh_run_shared.proofs.working.work_shared.Given as goal
 
 abbrev pub ghosts-work_all : goal.ghosts-work_all

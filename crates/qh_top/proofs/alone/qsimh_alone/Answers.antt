@@ -1,7 +1,7 @@
 use Rattle.std.proofs.Common.{map, string_bytes}
-use Rattle.qh_counts.specs.Counts.{RoseBy}
+use Rattle.qh_limits.specs.Counts.{RoseBy}
 use Rattle.qh_words.proofs.Requests.{prob_uncut}
-use Rattle.qh_tell.specs.Seen.{seen}
+use Rattle.qh_request.specs.Seen.{seen}
 use Rattle.qh_request.proofs.Journals.{keeps_asked, stays_stable, unwritten_refused, old_is_read, disk_runs, old_runs, reached_job}
 use Rattle.qh_request.proofs.Ends.{whole_run, whole_asked, exact_asked, unwritten_by, usage_answer, only_usage, refused_asked, words_refused, never_over_asked, journal_refused, completes}
 use Rattle.qh_top.proofs.alone.qsimh_alone.Goals as goal

@@ -5,7 +5,7 @@ use Rattle.qh_request.proofs.Causes.{answer_cause}
 use Rattle.qh_request.proofs.Runs.{answered_prints, moves_or_stays, breaks_off, written, broken, stopped_ends}
 use Rattle.std.proofs.Common.{[]}
 use Rattle.qh_planner.specs.Spelling.{table_text}
-use Rattle.qh_tell.specs.declared.stop.Stop.TheVariants.{Memory}
+use Rattle.qh_request.specs.declared.stop.Stop.TheVariants.{Memory}
 use Rattle.qh_request.specs.Chosen.{asks_auto, IsTableBy}
 use Rattle.qh_request.proofs.Runs.{memory_ends}
 use Rattle.qh_request.proofs.Tables.{input_before, unsaid, unsaid_memory, table_is, table_told, answer_before}

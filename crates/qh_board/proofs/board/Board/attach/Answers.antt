@@ -1,8 +1,8 @@
 use Rattle.std.proofs.Common.{◌≡◌, sym, subst, rules}
 use Rattle.std.specs.Arc.{arc_value}
 use Rattle.qh_plan.specs.Jobs.{Job}
-use Rattle.qh_replay.specs.Replay.{CourseView}
-use Rattle.qh_totals.specs.Running.{IsTotalOf}
+use Rattle.qh_core.specs.Replay.{CourseView}
+use Rattle.qh_slots.specs.Running.{IsTotalOf}
 use Rattle.qh_board.specs.Board.{BoardView, IsBoard, started}
 use Rattle.qh_board.proofs.StartLemmas.{started_board}
 use Rattle.qh_board.proofs.board.Board.attach.Goals as goal

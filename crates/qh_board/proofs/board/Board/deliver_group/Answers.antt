@@ -2,10 +2,10 @@ use Rattle.std.proofs.Common.{◌≡◌, ℕ, Bool, false, true, List, length, m
 use Rattle.std.proofs.lemmas.Bool.{false≢true}
 use Rattle.std.proofs.lemmas.List.{length-map}
 use Rattle.std.specs.Arc.{arc_value}
-use Rattle.qh_counts.specs.Counts.{Rose}
+use Rattle.qh_limits.specs.Counts.{Rose}
 use Rattle.qh_plan.specs.Jobs.{Job, IsJob}
 use Rattle.qh_plan.specs.Ranges.{Fits}
-use Rattle.qh_meaning.specs.Values.{range_value}
+use Rattle.qh_plan.specs.Values.{range_value}
 use Rattle.qh_disk.specs.Disk.{Reads}
 use Rattle.qh_slots.specs.Stands.{slot_at}
 use Rattle.std.specs.Prelude.{if◌then◌else◌}
@@ -15,8 +15,8 @@ use Rattle.qh_journal.specs.Calls.{JournalView, Went}
 use Rattle.qh_lease.specs.declared.totals.Totals.{Totals}
 use Rattle.qh_lease.specs.Tally.{Count}
 use Rattle.qh_range.specs.Results.{RangeResult}
-use Rattle.qh_replay.specs.Replay.{CourseView, is_begun}
-use Rattle.qh_totals.specs.Running.{IsTotalOf}
+use Rattle.qh_core.specs.Replay.{CourseView, is_begun}
+use Rattle.qh_slots.specs.Running.{IsTotalOf}
 use Rattle.qh_board.specs.declared.picking.Entry.{Entry}
 use Rattle.qh_board.specs.Board.{BoardView, Serves, begun}
 use Rattle.qh_board.specs.Deliveries.{Halts}

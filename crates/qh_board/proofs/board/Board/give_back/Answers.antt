@@ -2,7 +2,7 @@ use Rattle.std.proofs.Common.{◌≡◌, ◌<◌, length, rules}
 use Rattle.std.specs.Arc.{arc_value}
 use Rattle.qh_lease.specs.Lease.{lease_at}
 use Rattle.qh_lease.specs.declared.lease.Lease.TheVariants.{Out}
-use Rattle.qh_replay.specs.Replay.{CourseView}
+use Rattle.qh_core.specs.Replay.{CourseView}
 use Rattle.qh_board.specs.Claims.{given_back}
 use Rattle.qh_board.proofs.BoardLemmas.{given_back_board}
 use Rattle.qh_board.proofs.board.Board.give_back.Goals as goal

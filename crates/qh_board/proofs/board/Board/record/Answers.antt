@@ -4,15 +4,15 @@ use Rattle.std.specs.Arc.{arc_value}
 use Rattle.qh_plan.specs.declared.verdict.Verdict.{Verdict}
 use Rattle.qh_plan.specs.Jobs.{Job, IsJob}
 use Rattle.qh_plan.specs.Ranges.{Fits}
-use Rattle.qh_meaning.specs.Values.{range_value}
+use Rattle.qh_plan.specs.Values.{range_value}
 use Rattle.qh_disk.specs.Disk.{Reads}
 use Rattle.qh_slots.specs.Stands.{Slots, Stands, slot_at}
-use Rattle.qh_record.specs.Moments.{GoesOn}
+use Rattle.qh_slots.specs.Moments.{GoesOn}
 use Rattle.qh_journal.specs.Calls.{JournalView, Went}
 use Rattle.qh_lease.specs.declared.lease.Lease.TheVariants.{Acked}
 use Rattle.qh_lease.specs.Lease.{lease_at}
-use Rattle.qh_replay.specs.Replay.{CourseView}
-use Rattle.qh_totals.specs.Running.{IsTotalOf, IsNext}
+use Rattle.qh_core.specs.Replay.{CourseView}
+use Rattle.qh_slots.specs.Running.{IsTotalOf, IsNext}
 use Rattle.qh_board.specs.Board.{BoardView, IsAddable}
 use Rattle.qh_board.specs.Deliveries.{acknowledged, halted}
 use Rattle.qh_board.proofs.DeliverLemmas.{IsDue, due_from, addable_from, next_from, held_in, reads_on, halted_board, stored_board}

@@ -2,8 +2,8 @@ use Rattle.std.proofs.Common.{◌≡◌, ℕ, ◌+◌, ◌<◌, ◌≤◌, List,
 use Rattle.std.specs.List.{All}
 use Rattle.std.proofs.lemmas.List.{take_more, take_all}
 use Rattle.std.proofs.lemmas.List.Elements.{All-push}
-use Rattle.qh_tiles.specs.declared.turn.Turn.{Turn}
-use Rattle.qh_tiles.specs.Turns.{IsTurnIn}
+use Rattle.qh_passes.specs.declared.turn.Turn.{Turn}
+use Rattle.qh_passes.specs.Turns.{IsTurnIn}
 use Rattle.qh_half_tables.proofs.tests.columns.are_turns_in.Goals as goal
 
 more_turns : (run : List Turn) (i : ℕ) (turn : Turn) → i < length run → turn ≡ get_or run i turn → take (i + 1) run ≡ take i run ++ turn ∷ []

@@ -2,9 +2,9 @@ use Rattle.std.proofs.Common.{ℕ, ◌≡◌, ◌<◌, ◌+◌, List, [], ◌∷
 use Rattle.std.specs.List.{All}
 use Rattle.std.proofs.lemmas.List.{take_more}
 use Rattle.std.proofs.lemmas.List.Elements.{All-push}
-use Rattle.qh_tiles.specs.declared.turn.Turn.{Turn}
-use Rattle.qh_tiles.specs.Turns.{IsTurnIn, width_turned, width_after_turns}
-use Rattle.qh_tiles.proofs.RunLemmas.{widths_append}
+use Rattle.qh_passes.specs.declared.turn.Turn.{Turn}
+use Rattle.qh_passes.specs.Turns.{IsTurnIn, width_turned, width_after_turns}
+use Rattle.qh_passes.proofs.RunLemmas.{widths_append}
 use Rattle.qh_half_tables.proofs.tests.runs.fits.Goals as goal
 
 pub loop-turn-preserved : goal.loop-turn-preserved

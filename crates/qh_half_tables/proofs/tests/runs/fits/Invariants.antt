@@ -1,6 +1,6 @@
 use Rattle.std.proofs.Common.{◌≡◌, ◌<◌, ◌+◌, take}
 use Rattle.std.specs.List.{All}
-use Rattle.qh_tiles.specs.Turns.{IsTurnIn, width_after_turns}
+use Rattle.qh_passes.specs.Turns.{IsTurnIn, width_after_turns}
 use Rattle.qh_half_tables.proofs.tests.runs.fits.Given as goal
 
 abbrev pub invariant-loop-turn : goal.invariant-loop-turn

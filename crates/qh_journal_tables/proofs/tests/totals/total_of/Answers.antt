@@ -2,7 +2,7 @@ use Rattle.std.proofs.Common.{rules, arith, ◌≢◌, ◌-◌, ◌<◌, set, So
 use Rattle.qh_plan.specs.Jobs.{ranges}
 use Rattle.qh_plan.specs.Ranges.{Fits}
 use Rattle.qh_slots.specs.Stands.{nones}
-use Rattle.qh_totals.proofs.RunningLemmas.{next_of_nones, next_more, no_verdict}
+use Rattle.qh_slots.proofs.RunningLemmas.{next_of_nones, next_more, no_verdict}
 use Rattle.qh_journal_tables.proofs.tests.totals.total_of.Goals as goal
 
 pub add-requires : goal.add-requires

@@ -1,5 +1,5 @@
 use Rattle.std.proofs.Common.{subst}
-use Rattle.qh_part.specs.declared.part.Part.TheVariants.{Two}
+use Rattle.qh_prefix.specs.declared.part.Part.TheVariants.{Two}
 use Rattle.qh_prefix.specs.Checkpoints.{Checkpoint, IsAtPrefix}
 use Rattle.qh_prefix.proofs.checkpoint.Checkpoint.two.Goals as goal
 

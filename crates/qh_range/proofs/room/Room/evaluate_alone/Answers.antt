@@ -3,8 +3,8 @@ use Rattle.std.proofs.Math.Path.{ap₂}
 use Rattle.std.specs.Arc.{arc_value}
 use Rattle.qh_plan.specs.Jobs.{Job, IsJob, ranges, prefixes}
 use Rattle.qh_plan.specs.Ranges.{prefix_of}
-use Rattle.qh_part.specs.declared.stage.Stage.TheVariants.{Prefix}
-use Rattle.qh_part.specs.Stages.{stage_steps}
+use Rattle.qh_prefix.specs.declared.stage.Stage.TheVariants.{Prefix}
+use Rattle.qh_prefix.specs.Stages.{stage_steps}
 use Rattle.qh_range.specs.Steps.{range_steps}
 use Rattle.qh_range.proofs.RootLemmas.{prefix_within}
 use Rattle.qh_range.proofs.ValueLemmas.{steps_within}

@@ -2,9 +2,9 @@ use Rattle.std.proofs.Common.{◌≡◌, ◌+◌, ◌*◌, ◌≤◌, sym, subst
 use Rattle.std.proofs.Math.Path.{ap₂, subst₂}
 use Rattle.qh_plan.specs.Jobs.{Job, IsJob, per_range}
 use Rattle.qh_plan.specs.Ranges.{prefix_of}
-use Rattle.qh_part.specs.declared.part.Part.TheVariants.{One, Two}
-use Rattle.qh_part.specs.declared.stage.Stage.TheVariants.{Root, Suffix}
-use Rattle.qh_part.specs.Stages.{stage_steps}
+use Rattle.qh_prefix.specs.declared.part.Part.TheVariants.{One, Two}
+use Rattle.qh_prefix.specs.declared.stage.Stage.TheVariants.{Root, Suffix}
+use Rattle.qh_prefix.specs.Stages.{stage_steps}
 use Rattle.qh_prefix.specs.Checkpoints.{IsAtPrefix}
 use Rattle.qh_range.specs.Sides.{IsAtRoot}
 use Rattle.qh_range.proofs.ValueLemmas.{steps_after}

@@ -1,0 +1,29 @@
+use Rattle.std.proofs.Common.{arith, refl}
+use Rattle.std.specs.Int.{w16}
+use Rattle.qh_kernel.proofs.BoundLemmas.{blends_below}
+use Rattle.qh_kernel.proofs.PickLemmas.{blend_lanes}
+use Rattle.qh_kernel.proofs.lanes16.I16x16Vector.blended.Goals as goal
+
+pub returns-then-place-eq0-clause-lanes : goal.returns-then-place-eq0-clause-lanes
+returns-then-place-eq0-clause-lanes c = blend_lanes w16 16 0 c.args._bits c.args.place c.args.self c.args.high c.if-place-eq0.true c.requires.room c.requires.below c.requires.high
+
+pub returns-then-place-eq0-clause-below : goal.returns-then-place-eq0-clause-below
+returns-then-place-eq0-clause-below c = blends_below 16 c.args.place c.args._bits c.args.self c.args.high _ refl c.requires.below c.requires.high (returns-then-place-eq0-clause-lanes c)
+
+pub returns-then-place-eq1-clause-lanes : goal.returns-then-place-eq1-clause-lanes
+returns-then-place-eq1-clause-lanes c = blend_lanes w16 16 1 c.args._bits c.args.place c.args.self c.args.high c.if-place-eq1.true c.requires.room c.requires.below c.requires.high
+
+pub returns-then-place-eq1-clause-below : goal.returns-then-place-eq1-clause-below
+returns-then-place-eq1-clause-below c = blends_below 16 c.args.place c.args._bits c.args.self c.args.high _ refl c.requires.below c.requires.high (returns-then-place-eq1-clause-lanes c)
+
+pub returns-then-place-eq2-clause-lanes : goal.returns-then-place-eq2-clause-lanes
+returns-then-place-eq2-clause-lanes c = blend_lanes w16 16 2 c.args._bits c.args.place c.args.self c.args.high c.if-place-eq2.true c.requires.room c.requires.below c.requires.high
+
+pub returns-then-place-eq2-clause-below : goal.returns-then-place-eq2-clause-below
+returns-then-place-eq2-clause-below c = blends_below 16 c.args.place c.args._bits c.args.self c.args.high _ refl c.requires.below c.requires.high (returns-then-place-eq2-clause-lanes c)
+
+pub returns-clause-lanes : goal.returns-clause-lanes
+returns-clause-lanes c = blend_lanes w16 16 3 c.args._bits c.args.place c.args.self c.args.high (let few = c.requires.place in omega arith) c.requires.room c.requires.below c.requires.high
+
+pub returns-clause-below : goal.returns-clause-below
+returns-clause-below c = blends_below 16 c.args.place c.args._bits c.args.self c.args.high _ refl c.requires.below c.requires.high (returns-clause-lanes c)

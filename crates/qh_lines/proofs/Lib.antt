@@ -1,3 +1,0 @@
--- Lemmas on lines and words, which other crates may cite.
-pub mod WordLemmas
-pub mod LineLemmas

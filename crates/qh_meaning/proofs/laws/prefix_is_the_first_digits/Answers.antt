@@ -1,5 +1,0 @@
-use Rattle.qh_meaning.proofs.PrefixLemmas.{prefix_of_job}
-use Rattle.qh_meaning.proofs.laws.prefix_is_the_first_digits.Goals as goal
-
-pub returns : goal.returns
-returns c = prefix_of_job

@@ -1,5 +1,0 @@
-use Rattle.qh_meaning.proofs.OverLemmas.{names_least}
-use Rattle.qh_meaning.proofs.laws.run_names_the_least_path_over.Goals as goal
-
-pub returns : goal.returns
-returns c = names_least

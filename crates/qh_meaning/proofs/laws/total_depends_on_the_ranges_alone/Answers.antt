@@ -1,5 +1,0 @@
-use Rattle.qh_meaning.proofs.SlotLemmas.{total_same}
-use Rattle.qh_meaning.proofs.laws.total_depends_on_the_ranges_alone.Goals as goal
-
-pub returns : goal.returns
-returns c = total_same

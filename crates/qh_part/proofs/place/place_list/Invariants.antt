@@ -1,7 +1,0 @@
-use Rattle.std.proofs.Common.{◌≡◌, take}
-use Rattle.qh_part.specs.Parts.{in_part}
-use Rattle.qh_part.specs.Places.{placed}
-use Rattle.qh_part.proofs.place.place_list.Given as goal
-
-abbrev pub invariant-loop-gate : goal.invariant-loop-gate
-invariant-loop-gate l = l.list.items ≡ placed (in_part l.fn.part l.job) (take l.gate-index l.gates)

@@ -1,2 +1,0 @@
--- Lemmas that several functions need.
-pub mod HeadLemmas

@@ -1,2 +1,0 @@
--- The job that a file names, and why it names none.
-pub mod Naming

@@ -1,5 +1,0 @@
-use Rattle.qh_replay.proofs.OnceLemmas.{acked_once}
-use Rattle.qh_replay.proofs.laws.each_range_is_acknowledged_once.Goals as goal
-
-pub returns : goal.returns
-returns c = λ course range is_course. acked_once course range is_course.replay

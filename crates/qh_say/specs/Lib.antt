@@ -1,2 +1,0 @@
--- What a call does to a sink, and what it says there.
-pub mod Saying

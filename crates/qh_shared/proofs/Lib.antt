@@ -1,2 +1,0 @@
-pub mod FactLemmas
-pub mod AnswerLemmas

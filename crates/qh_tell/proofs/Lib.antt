@@ -1,2 +1,0 @@
--- How what a sink was told adds up.
-pub mod Saying

@@ -1,7 +1,0 @@
-use Rattle.std.proofs.Common.{◌*◌, ◌^◌}
-use Rattle.qh_tiles.specs.Turns.{width_after_turns}
-use Rattle.qh_tiles.proofs.TileLemmas.{IsTiled}
-use Rattle.qh_tiles.proofs.tiles.apply_run.Given as goal
-
-abbrev pub invariant-loop-number : goal.invariant-loop-number
-invariant-loop-number g l = IsTiled g.V.Vector.lanes g.V.Vector.PLACES (width_after_turns l.run l.bits) l.run l.initial.v l.v (l.number * 2 ^ l.tile)

@@ -1,3 +1,0 @@
--- Lemmas that the crates above cite.
-pub mod RunningLemmas
-pub mod FirstLemmas

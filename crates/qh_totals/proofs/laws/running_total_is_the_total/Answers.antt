@@ -1,5 +1,0 @@
-use Rattle.qh_totals.proofs.RunningLemmas.{whole_total}
-use Rattle.qh_totals.proofs.laws.running_total_is_the_total.Goals as goal
-
-pub returns : goal.returns
-returns c = whole_total

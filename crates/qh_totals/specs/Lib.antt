@@ -1,2 +1,0 @@
--- The running total of a journal's slots.
-pub mod Running

@@ -1,6 +1,0 @@
-use Rattle.std.proofs.Common.{ℕ, ◌<◌}
-use Rattle.qh_union.specs.Gathered.{IsKept}
-use Rattle.qh_union.proofs.gather.first_missing.Given as goal
-
-abbrev pub invariant-loop-w : goal.invariant-loop-w
-invariant-loop-w l = (v : ℕ) → v < l.w → IsKept v l.prefixes

@@ -1,5 +1,0 @@
-use Rattle.qh_union.proofs.LawLemmas.{made_true}
-use Rattle.qh_union.proofs.laws.made_journals_are_true.Goals as goal
-
-pub returns : goal.returns
-returns c = made_true

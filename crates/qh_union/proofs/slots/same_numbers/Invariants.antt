@@ -1,6 +1,0 @@
-use Rattle.std.proofs.Common.{◌≡◌, ℕ, ◌<◌}
-use Rattle.qh_ring.specs.States.{at_index}
-use Rattle.qh_union.proofs.slots.same_numbers.Given as goal
-
-abbrev pub invariant-loop-k : goal.invariant-loop-k
-invariant-loop-k l = (q : ℕ) → q < l.k → at_index l.one q ≡ at_index l.two q

@@ -1,8 +1,0 @@
--- What a merge promises.
-pub mod Inputs
-pub mod Union
-pub mod Merging
-pub mod Parts
-pub mod Laws
-pub mod Gathered
-pub mod Adding

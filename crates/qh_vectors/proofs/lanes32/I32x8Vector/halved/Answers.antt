@@ -1,9 +1,0 @@
-use Rattle.std.specs.Int.{w32}
-use Rattle.qh_vectors.proofs.HalfLemmas.{halves_lane, halves_below}
-use Rattle.qh_vectors.proofs.lanes32.I32x8Vector.halved.Goals as goal
-
-pub returns-clause-lanes : goal.returns-clause-lanes
-returns-clause-lanes c = halves_lane w32 8 c.args._bits c.args.self c.requires.room c.requires.below c.requires.even
-
-pub returns-clause-below : goal.returns-clause-below
-returns-clause-below c = halves_below w32 8 c.args._bits c.args.self c.requires.room c.requires.below c.requires.even

@@ -1,5 +1,0 @@
-use Rattle.qh_vectors.proofs.MostLemmas.{IsMost}
-use Rattle.qh_vectors.proofs.lanes64.I64x8Vector.most.Given as goal
-
-abbrev pub invariant-loop-r : goal.invariant-loop-r
-invariant-loop-r l = IsMost 8 l.lanes l.r l.most
