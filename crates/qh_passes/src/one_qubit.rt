@@ -7,10 +7,31 @@ ghost use Rattle.qh_ring.specs.Units.{are_units};
 ghost use Rattle.qh_blocks.specs.Blocks.{IsBlock};
 ghost use Rattle.qh_blocks.specs.Numbers.{numbers};
 ghost use Rattle.qh_blocks.specs.Widths.{two_rows, width_after};
+ghost use Rattle.qh_passes.specs.Passes.{AreBlocks, IsPassed};
 
 use qh_blocks::{Block, lane_blocks, pair_blocks};
 use qh_kernel::Vector;
 use qh_ring::{Entry, Mat2};
+
+/// `pair_blocks`, with all that it promises in one fact.
+#[inline(always)]
+fn pair_passed<V: Vector>(
+    v: &mut [Block<V>],
+    qubits: u32,
+    q: u32,
+    bits: u32,
+    first: Entry,
+    second: Entry,
+    third: Entry,
+    fourth: Entry,
+)
+    requires blocks { AreBlocks V.lanes V.PLACES V.ROOM qubits bits v.old }
+    requires qubit { q < qubits }
+    requires units { IsTrue (are_units (two_rows first second third fourth)) }
+    ensures { IsPassed V.lanes V.PLACES (two_rows first second third fourth) ((q + V.PLACES) ∷ []) (width_after (two_rows first second third fourth) bits) v.old v.new }
+{
+    pair_blocks(v, qubits, q, bits, first, second, third, fourth);
+}
 
 /// `pair_blocks`, with code of its own for each usual gate whose rows have two entries.
 fn pairs_added<V: Vector>(
@@ -23,18 +44,13 @@ fn pairs_added<V: Vector>(
     third: Entry,
     fourth: Entry,
 )
-    requires few { qubits ≤ max_part_qubits }
-    requires blocks { length v.old ≡ 2 ^ qubits }
+    requires blocks { AreBlocks V.lanes V.PLACES V.ROOM qubits bits v.old }
     requires qubit { q < qubits }
     requires units { IsTrue (are_units (two_rows first second third fourth)) }
-    requires room { bits < V.ROOM }
-    requires bounded { All (IsBlock V.lanes (2 ^ V.PLACES) bits) v.old }
-    ensures exact { numbers V.lanes V.PLACES v.new ≡ applied_list (number_in (two_rows first second third fourth)) ((q + V.PLACES) ∷ []) (numbers V.lanes V.PLACES v.old) }
-    ensures bounded { All (IsBlock V.lanes (2 ^ V.PLACES) (width_after (two_rows first second third fourth) bits)) v.new }
-    ensures len { length v.new ≡ length v.old }
+    ensures { IsPassed V.lanes V.PLACES (two_rows first second third fourth) ((q + V.PLACES) ∷ []) (width_after (two_rows first second third fourth) bits) v.old v.new }
 {
     match (first, second, third, fourth) {
-        (Entry::Unit(0), Entry::Unit(0), Entry::Unit(0), Entry::Unit(4)) => pair_blocks(
+        (Entry::Unit(0), Entry::Unit(0), Entry::Unit(0), Entry::Unit(4)) => pair_passed(
             v,
             qubits,
             q,
@@ -44,7 +60,7 @@ fn pairs_added<V: Vector>(
             Entry::Unit(0),
             Entry::Unit(4),
         ),
-        (Entry::Unit(1), Entry::Unit(7), Entry::Unit(7), Entry::Unit(1)) => pair_blocks(
+        (Entry::Unit(1), Entry::Unit(7), Entry::Unit(7), Entry::Unit(1)) => pair_passed(
             v,
             qubits,
             q,
@@ -54,7 +70,7 @@ fn pairs_added<V: Vector>(
             Entry::Unit(7),
             Entry::Unit(1),
         ),
-        (Entry::Unit(1), Entry::Unit(5), Entry::Unit(1), Entry::Unit(1)) => pair_blocks(
+        (Entry::Unit(1), Entry::Unit(5), Entry::Unit(1), Entry::Unit(1)) => pair_passed(
             v,
             qubits,
             q,
@@ -64,7 +80,7 @@ fn pairs_added<V: Vector>(
             Entry::Unit(1),
             Entry::Unit(1),
         ),
-        (Entry::Unit(1), Entry::Unit(6), Entry::Unit(0), Entry::Unit(1)) => pair_blocks(
+        (Entry::Unit(1), Entry::Unit(6), Entry::Unit(0), Entry::Unit(1)) => pair_passed(
             v,
             qubits,
             q,
@@ -89,18 +105,13 @@ fn pairs_moved<V: Vector>(
     third: Entry,
     fourth: Entry,
 )
-    requires few { qubits ≤ max_part_qubits }
-    requires blocks { length v.old ≡ 2 ^ qubits }
+    requires blocks { AreBlocks V.lanes V.PLACES V.ROOM qubits bits v.old }
     requires qubit { q < qubits }
     requires units { IsTrue (are_units (two_rows first second third fourth)) }
-    requires room { bits < V.ROOM }
-    requires bounded { All (IsBlock V.lanes (2 ^ V.PLACES) bits) v.old }
-    ensures exact { numbers V.lanes V.PLACES v.new ≡ applied_list (number_in (two_rows first second third fourth)) ((q + V.PLACES) ∷ []) (numbers V.lanes V.PLACES v.old) }
-    ensures bounded { All (IsBlock V.lanes (2 ^ V.PLACES) (width_after (two_rows first second third fourth) bits)) v.new }
-    ensures len { length v.new ≡ length v.old }
+    ensures { IsPassed V.lanes V.PLACES (two_rows first second third fourth) ((q + V.PLACES) ∷ []) (width_after (two_rows first second third fourth) bits) v.old v.new }
 {
     match (first, second, third, fourth) {
-        (Entry::Unit(0), Entry::Zero, Entry::Zero, Entry::Unit(0)) => pair_blocks(
+        (Entry::Unit(0), Entry::Zero, Entry::Zero, Entry::Unit(0)) => pair_passed(
             v,
             qubits,
             q,
@@ -110,7 +121,7 @@ fn pairs_moved<V: Vector>(
             Entry::Zero,
             Entry::Unit(0),
         ),
-        (Entry::Unit(0), Entry::Zero, Entry::Zero, Entry::Unit(1)) => pair_blocks(
+        (Entry::Unit(0), Entry::Zero, Entry::Zero, Entry::Unit(1)) => pair_passed(
             v,
             qubits,
             q,
@@ -120,7 +131,7 @@ fn pairs_moved<V: Vector>(
             Entry::Zero,
             Entry::Unit(1),
         ),
-        (Entry::Unit(0), Entry::Zero, Entry::Zero, Entry::Unit(2)) => pair_blocks(
+        (Entry::Unit(0), Entry::Zero, Entry::Zero, Entry::Unit(2)) => pair_passed(
             v,
             qubits,
             q,
@@ -130,7 +141,7 @@ fn pairs_moved<V: Vector>(
             Entry::Zero,
             Entry::Unit(2),
         ),
-        (Entry::Unit(0), Entry::Zero, Entry::Zero, Entry::Unit(4)) => pair_blocks(
+        (Entry::Unit(0), Entry::Zero, Entry::Zero, Entry::Unit(4)) => pair_passed(
             v,
             qubits,
             q,
@@ -140,7 +151,7 @@ fn pairs_moved<V: Vector>(
             Entry::Zero,
             Entry::Unit(4),
         ),
-        (Entry::Zero, Entry::Unit(0), Entry::Unit(0), Entry::Zero) => pair_blocks(
+        (Entry::Zero, Entry::Unit(0), Entry::Unit(0), Entry::Zero) => pair_passed(
             v,
             qubits,
             q,
@@ -150,7 +161,7 @@ fn pairs_moved<V: Vector>(
             Entry::Unit(0),
             Entry::Zero,
         ),
-        (Entry::Zero, Entry::Unit(6), Entry::Unit(2), Entry::Zero) => pair_blocks(
+        (Entry::Zero, Entry::Unit(6), Entry::Unit(2), Entry::Zero) => pair_passed(
             v,
             qubits,
             q,
@@ -160,7 +171,7 @@ fn pairs_moved<V: Vector>(
             Entry::Unit(2),
             Entry::Zero,
         ),
-        (Entry::Unit(0), Entry::Zero, Entry::Zero, Entry::Zero) => pair_blocks(
+        (Entry::Unit(0), Entry::Zero, Entry::Zero, Entry::Zero) => pair_passed(
             v,
             qubits,
             q,
@@ -170,7 +181,7 @@ fn pairs_moved<V: Vector>(
             Entry::Zero,
             Entry::Zero,
         ),
-        (Entry::Zero, Entry::Zero, Entry::Zero, Entry::Unit(0)) => pair_blocks(
+        (Entry::Zero, Entry::Zero, Entry::Zero, Entry::Unit(0)) => pair_passed(
             v,
             qubits,
             q,
@@ -180,8 +191,28 @@ fn pairs_moved<V: Vector>(
             Entry::Zero,
             Entry::Unit(0),
         ),
-        _ => pair_blocks(v, qubits, q, bits, first, second, third, fourth),
+        _ => pair_passed(v, qubits, q, bits, first, second, third, fourth),
     }
+}
+
+/// `lane_blocks`, with all that it promises in one fact.
+#[inline(always)]
+fn lane_passed<V: Vector>(
+    v: &mut [Block<V>],
+    q: u32,
+    bits: u32,
+    first: Entry,
+    second: Entry,
+    third: Entry,
+    fourth: Entry,
+)
+    requires place { q < V.PLACES }
+    requires units { IsTrue (are_units (two_rows first second third fourth)) }
+    requires room { bits < V.ROOM }
+    requires bounded { All (IsBlock V.lanes (2 ^ V.PLACES) bits) v.old }
+    ensures { IsPassed V.lanes V.PLACES (two_rows first second third fourth) (q ∷ []) (width_after (two_rows first second third fourth) bits) v.old v.new }
+{
+    lane_blocks(v, q, bits, first, second, third, fourth);
 }
 
 /// `lane_blocks`, with code of its own for each usual gate whose rows have two entries.
@@ -197,12 +228,10 @@ fn lanes_added<V: Vector, const Q: u32>(
     requires units { IsTrue (are_units (two_rows first second third fourth)) }
     requires room { bits < V.ROOM }
     requires bounded { All (IsBlock V.lanes (2 ^ V.PLACES) bits) v.old }
-    ensures exact { numbers V.lanes V.PLACES v.new ≡ applied_list (number_in (two_rows first second third fourth)) (Q ∷ []) (numbers V.lanes V.PLACES v.old) }
-    ensures bounded { All (IsBlock V.lanes (2 ^ V.PLACES) (width_after (two_rows first second third fourth) bits)) v.new }
-    ensures len { length v.new ≡ length v.old }
+    ensures { IsPassed V.lanes V.PLACES (two_rows first second third fourth) (Q ∷ []) (width_after (two_rows first second third fourth) bits) v.old v.new }
 {
     match (first, second, third, fourth) {
-        (Entry::Unit(0), Entry::Unit(0), Entry::Unit(0), Entry::Unit(4)) => lane_blocks(
+        (Entry::Unit(0), Entry::Unit(0), Entry::Unit(0), Entry::Unit(4)) => lane_passed(
             v,
             Q,
             bits,
@@ -211,7 +240,7 @@ fn lanes_added<V: Vector, const Q: u32>(
             Entry::Unit(0),
             Entry::Unit(4),
         ),
-        (Entry::Unit(1), Entry::Unit(7), Entry::Unit(7), Entry::Unit(1)) => lane_blocks(
+        (Entry::Unit(1), Entry::Unit(7), Entry::Unit(7), Entry::Unit(1)) => lane_passed(
             v,
             Q,
             bits,
@@ -220,7 +249,7 @@ fn lanes_added<V: Vector, const Q: u32>(
             Entry::Unit(7),
             Entry::Unit(1),
         ),
-        (Entry::Unit(1), Entry::Unit(5), Entry::Unit(1), Entry::Unit(1)) => lane_blocks(
+        (Entry::Unit(1), Entry::Unit(5), Entry::Unit(1), Entry::Unit(1)) => lane_passed(
             v,
             Q,
             bits,
@@ -229,7 +258,7 @@ fn lanes_added<V: Vector, const Q: u32>(
             Entry::Unit(1),
             Entry::Unit(1),
         ),
-        (Entry::Unit(1), Entry::Unit(6), Entry::Unit(0), Entry::Unit(1)) => lane_blocks(
+        (Entry::Unit(1), Entry::Unit(6), Entry::Unit(0), Entry::Unit(1)) => lane_passed(
             v,
             Q,
             bits,
@@ -255,12 +284,10 @@ fn lanes_moved<V: Vector, const Q: u32>(
     requires units { IsTrue (are_units (two_rows first second third fourth)) }
     requires room { bits < V.ROOM }
     requires bounded { All (IsBlock V.lanes (2 ^ V.PLACES) bits) v.old }
-    ensures exact { numbers V.lanes V.PLACES v.new ≡ applied_list (number_in (two_rows first second third fourth)) (Q ∷ []) (numbers V.lanes V.PLACES v.old) }
-    ensures bounded { All (IsBlock V.lanes (2 ^ V.PLACES) (width_after (two_rows first second third fourth) bits)) v.new }
-    ensures len { length v.new ≡ length v.old }
+    ensures { IsPassed V.lanes V.PLACES (two_rows first second third fourth) (Q ∷ []) (width_after (two_rows first second third fourth) bits) v.old v.new }
 {
     match (first, second, third, fourth) {
-        (Entry::Unit(0), Entry::Zero, Entry::Zero, Entry::Unit(0)) => lane_blocks(
+        (Entry::Unit(0), Entry::Zero, Entry::Zero, Entry::Unit(0)) => lane_passed(
             v,
             Q,
             bits,
@@ -269,7 +296,7 @@ fn lanes_moved<V: Vector, const Q: u32>(
             Entry::Zero,
             Entry::Unit(0),
         ),
-        (Entry::Unit(0), Entry::Zero, Entry::Zero, Entry::Unit(1)) => lane_blocks(
+        (Entry::Unit(0), Entry::Zero, Entry::Zero, Entry::Unit(1)) => lane_passed(
             v,
             Q,
             bits,
@@ -278,7 +305,7 @@ fn lanes_moved<V: Vector, const Q: u32>(
             Entry::Zero,
             Entry::Unit(1),
         ),
-        (Entry::Unit(0), Entry::Zero, Entry::Zero, Entry::Unit(2)) => lane_blocks(
+        (Entry::Unit(0), Entry::Zero, Entry::Zero, Entry::Unit(2)) => lane_passed(
             v,
             Q,
             bits,
@@ -287,7 +314,7 @@ fn lanes_moved<V: Vector, const Q: u32>(
             Entry::Zero,
             Entry::Unit(2),
         ),
-        (Entry::Unit(0), Entry::Zero, Entry::Zero, Entry::Unit(4)) => lane_blocks(
+        (Entry::Unit(0), Entry::Zero, Entry::Zero, Entry::Unit(4)) => lane_passed(
             v,
             Q,
             bits,
@@ -296,7 +323,7 @@ fn lanes_moved<V: Vector, const Q: u32>(
             Entry::Zero,
             Entry::Unit(4),
         ),
-        (Entry::Zero, Entry::Unit(0), Entry::Unit(0), Entry::Zero) => lane_blocks(
+        (Entry::Zero, Entry::Unit(0), Entry::Unit(0), Entry::Zero) => lane_passed(
             v,
             Q,
             bits,
@@ -305,7 +332,7 @@ fn lanes_moved<V: Vector, const Q: u32>(
             Entry::Unit(0),
             Entry::Zero,
         ),
-        (Entry::Zero, Entry::Unit(6), Entry::Unit(2), Entry::Zero) => lane_blocks(
+        (Entry::Zero, Entry::Unit(6), Entry::Unit(2), Entry::Zero) => lane_passed(
             v,
             Q,
             bits,
@@ -314,7 +341,7 @@ fn lanes_moved<V: Vector, const Q: u32>(
             Entry::Unit(2),
             Entry::Zero,
         ),
-        (Entry::Unit(0), Entry::Zero, Entry::Zero, Entry::Zero) => lane_blocks(
+        (Entry::Unit(0), Entry::Zero, Entry::Zero, Entry::Zero) => lane_passed(
             v,
             Q,
             bits,
@@ -323,7 +350,7 @@ fn lanes_moved<V: Vector, const Q: u32>(
             Entry::Zero,
             Entry::Zero,
         ),
-        (Entry::Zero, Entry::Zero, Entry::Zero, Entry::Unit(0)) => lane_blocks(
+        (Entry::Zero, Entry::Zero, Entry::Zero, Entry::Unit(0)) => lane_passed(
             v,
             Q,
             bits,
@@ -332,7 +359,7 @@ fn lanes_moved<V: Vector, const Q: u32>(
             Entry::Zero,
             Entry::Unit(0),
         ),
-        _ => lane_blocks(v, Q, bits, first, second, third, fourth),
+        _ => lane_passed(v, Q, bits, first, second, third, fourth),
     }
 }
 
@@ -347,15 +374,10 @@ fn entries_on<V: Vector>(
     third: Entry,
     fourth: Entry,
 )
-    requires few { qubits ≤ max_part_qubits }
-    requires blocks { length v.old ≡ 2 ^ qubits }
+    requires blocks { AreBlocks V.lanes V.PLACES V.ROOM qubits bits v.old }
     requires qubit { q < qubits + V.PLACES }
     requires units { IsTrue (are_units (two_rows first second third fourth)) }
-    requires room { bits < V.ROOM }
-    requires bounded { All (IsBlock V.lanes (2 ^ V.PLACES) bits) v.old }
-    ensures exact { numbers V.lanes V.PLACES v.new ≡ applied_list (number_in (two_rows first second third fourth)) (q ∷ []) (numbers V.lanes V.PLACES v.old) }
-    ensures bounded { All (IsBlock V.lanes (2 ^ V.PLACES) (width_after (two_rows first second third fourth) bits)) v.new }
-    ensures len { length v.new ≡ length v.old }
+    ensures { IsPassed V.lanes V.PLACES (two_rows first second third fourth) (q ∷ []) (width_after (two_rows first second third fourth) bits) v.old v.new }
 {
     if q >= V::PLACES {
         return pairs_added(v, qubits, q - V::PLACES, bits, first, second, third, fourth);

@@ -7,58 +7,81 @@ ghost use Rattle.qh_ring.specs.States.{applied_list};
 ghost use Rattle.qh_kernel.specs.Rows.{are_single};
 ghost use Rattle.qh_blocks.specs.Blocks.{IsBlock};
 ghost use Rattle.qh_blocks.specs.Numbers.{numbers};
+ghost use Rattle.qh_passes.specs.Passes.{AreBlocks, IsPassed};
 
 use crate::usual::{CNOT, CZ, ID, IS, SW, is_matrix};
 use qh_blocks::{Block, high_low_blocks, low_high_blocks, low_low_blocks, quad_blocks};
 use qh_kernel::Vector;
 use qh_ring::Mat4;
 
-/// `quad_blocks`, with code of its own for each usual gate.
-fn quads_moved<V: Vector>(v: &mut [Block<V>], qubits: u32, q0: u32, q1: u32, bits: u32, m: &Mat4)
-    requires few { qubits ≤ max_part_qubits }
-    requires blocks { length v.old ≡ 2 ^ qubits }
+/// `quad_blocks`, with all that it promises in one fact.
+#[inline(always)]
+fn quad_passed<V: Vector>(v: &mut [Block<V>], qubits: u32, q0: u32, q1: u32, bits: u32, m: &Mat4)
+    requires blocks { AreBlocks V.lanes V.PLACES V.ROOM qubits bits v.old }
     requires first { q0 < qubits }
     requires second { q1 < qubits }
     requires apart { q0 ≢ q1 }
     requires single { IsTrue (are_single m.now.rows) }
-    requires room { bits < V.ROOM }
-    requires bounded { All (IsBlock V.lanes (2 ^ V.PLACES) bits) v.old }
-    ensures exact { numbers V.lanes V.PLACES v.new ≡ applied_list (number_in m.now.rows) ((q0 + V.PLACES) ∷ (q1 + V.PLACES) ∷ []) (numbers V.lanes V.PLACES v.old) }
-    ensures bounded { All (IsBlock V.lanes (2 ^ V.PLACES) bits) v.new }
-    ensures len { length v.new ≡ length v.old }
+    ensures { IsPassed V.lanes V.PLACES m.now.rows ((q0 + V.PLACES) ∷ (q1 + V.PLACES) ∷ []) bits v.old v.new }
+{
+    quad_blocks(v, qubits, q0, q1, bits, m);
+}
+
+/// `quad_blocks`, with code of its own for each usual gate.
+fn quads_moved<V: Vector>(v: &mut [Block<V>], qubits: u32, q0: u32, q1: u32, bits: u32, m: &Mat4)
+    requires blocks { AreBlocks V.lanes V.PLACES V.ROOM qubits bits v.old }
+    requires first { q0 < qubits }
+    requires second { q1 < qubits }
+    requires apart { q0 ≢ q1 }
+    requires single { IsTrue (are_single m.now.rows) }
+    ensures { IsPassed V.lanes V.PLACES m.now.rows ((q0 + V.PLACES) ∷ (q1 + V.PLACES) ∷ []) bits v.old v.new }
 {
     if is_matrix(m, &CZ) {
-        return quad_blocks(v, qubits, q0, q1, bits, &CZ);
+        return quad_passed(v, qubits, q0, q1, bits, &CZ);
     }
     if is_matrix(m, &CNOT) {
-        return quad_blocks(v, qubits, q0, q1, bits, &CNOT);
+        return quad_passed(v, qubits, q0, q1, bits, &CNOT);
     }
     if is_matrix(m, &IS) {
-        return quad_blocks(v, qubits, q0, q1, bits, &IS);
+        return quad_passed(v, qubits, q0, q1, bits, &IS);
     }
     if is_matrix(m, &SW) {
-        return quad_blocks(v, qubits, q0, q1, bits, &SW);
+        return quad_passed(v, qubits, q0, q1, bits, &SW);
     }
     if is_matrix(m, &ID) {
-        return quad_blocks(v, qubits, q0, q1, bits, &ID);
+        return quad_passed(v, qubits, q0, q1, bits, &ID);
     }
-    quad_blocks(v, qubits, q0, q1, bits, m)
+    quad_passed(v, qubits, q0, q1, bits, m)
+}
+
+/// `high_low_blocks`, with all that it promises in one fact.
+#[inline(always)]
+fn high_low_passed<V: Vector>(
+    v: &mut [Block<V>],
+    qubits: u32,
+    q0: u32,
+    q1: u32,
+    bits: u32,
+    m: &Mat4,
+)
+    requires blocks { AreBlocks V.lanes V.PLACES V.ROOM qubits bits v.old }
+    requires first { q0 < qubits }
+    requires second { q1 < V.PLACES }
+    requires single { IsTrue (are_single m.now.rows) }
+    ensures { IsPassed V.lanes V.PLACES m.now.rows ((q0 + V.PLACES) ∷ q1 ∷ []) bits v.old v.new }
+{
+    high_low_blocks(v, qubits, q0, q1, bits, m)
 }
 
 /// `high_low_blocks`, for any matrix.
 fn high_low_any<V: Vector>(v: &mut [Block<V>], qubits: u32, q0: u32, q1: u32, bits: u32, m: &Mat4)
-    requires few { qubits ≤ max_part_qubits }
-    requires blocks { length v.old ≡ 2 ^ qubits }
+    requires blocks { AreBlocks V.lanes V.PLACES V.ROOM qubits bits v.old }
     requires first { q0 < qubits }
     requires second { q1 < V.PLACES }
     requires single { IsTrue (are_single m.now.rows) }
-    requires room { bits < V.ROOM }
-    requires bounded { All (IsBlock V.lanes (2 ^ V.PLACES) bits) v.old }
-    ensures exact { numbers V.lanes V.PLACES v.new ≡ applied_list (number_in m.now.rows) ((q0 + V.PLACES) ∷ q1 ∷ []) (numbers V.lanes V.PLACES v.old) }
-    ensures bounded { All (IsBlock V.lanes (2 ^ V.PLACES) bits) v.new }
-    ensures len { length v.new ≡ length v.old }
+    ensures { IsPassed V.lanes V.PLACES m.now.rows ((q0 + V.PLACES) ∷ q1 ∷ []) bits v.old v.new }
 {
-    high_low_blocks(v, qubits, q0, q1, bits, m)
+    high_low_passed(v, qubits, q0, q1, bits, m)
 }
 
 /// `high_low_blocks`, with code of its own for each usual gate.
@@ -69,31 +92,26 @@ fn high_low_moved<V: Vector, const Q: u32>(
     bits: u32,
     m: &Mat4,
 )
-    requires few { qubits ≤ max_part_qubits }
-    requires blocks { length v.old ≡ 2 ^ qubits }
+    requires blocks { AreBlocks V.lanes V.PLACES V.ROOM qubits bits v.old }
     requires first { q0 < qubits }
     requires second { Q < V.PLACES }
     requires single { IsTrue (are_single m.now.rows) }
-    requires room { bits < V.ROOM }
-    requires bounded { All (IsBlock V.lanes (2 ^ V.PLACES) bits) v.old }
-    ensures exact { numbers V.lanes V.PLACES v.new ≡ applied_list (number_in m.now.rows) ((q0 + V.PLACES) ∷ Q ∷ []) (numbers V.lanes V.PLACES v.old) }
-    ensures bounded { All (IsBlock V.lanes (2 ^ V.PLACES) bits) v.new }
-    ensures len { length v.new ≡ length v.old }
+    ensures { IsPassed V.lanes V.PLACES m.now.rows ((q0 + V.PLACES) ∷ Q ∷ []) bits v.old v.new }
 {
     if is_matrix(m, &CZ) {
-        return high_low_blocks(v, qubits, q0, Q, bits, &CZ);
+        return high_low_passed(v, qubits, q0, Q, bits, &CZ);
     }
     if is_matrix(m, &CNOT) {
-        return high_low_blocks(v, qubits, q0, Q, bits, &CNOT);
+        return high_low_passed(v, qubits, q0, Q, bits, &CNOT);
     }
     if is_matrix(m, &IS) {
-        return high_low_blocks(v, qubits, q0, Q, bits, &IS);
+        return high_low_passed(v, qubits, q0, Q, bits, &IS);
     }
     if is_matrix(m, &SW) {
-        return high_low_blocks(v, qubits, q0, Q, bits, &SW);
+        return high_low_passed(v, qubits, q0, Q, bits, &SW);
     }
     if is_matrix(m, &ID) {
-        return high_low_blocks(v, qubits, q0, Q, bits, &ID);
+        return high_low_passed(v, qubits, q0, Q, bits, &ID);
     }
     high_low_any(v, qubits, q0, Q, bits, m)
 }
@@ -107,16 +125,11 @@ fn high_low_placed<V: Vector>(
     bits: u32,
     m: &Mat4,
 )
-    requires few { qubits ≤ max_part_qubits }
-    requires blocks { length v.old ≡ 2 ^ qubits }
+    requires blocks { AreBlocks V.lanes V.PLACES V.ROOM qubits bits v.old }
     requires first { q0 < qubits }
     requires second { q1 < V.PLACES }
     requires single { IsTrue (are_single m.now.rows) }
-    requires room { bits < V.ROOM }
-    requires bounded { All (IsBlock V.lanes (2 ^ V.PLACES) bits) v.old }
-    ensures exact { numbers V.lanes V.PLACES v.new ≡ applied_list (number_in m.now.rows) ((q0 + V.PLACES) ∷ q1 ∷ []) (numbers V.lanes V.PLACES v.old) }
-    ensures bounded { All (IsBlock V.lanes (2 ^ V.PLACES) bits) v.new }
-    ensures len { length v.new ≡ length v.old }
+    ensures { IsPassed V.lanes V.PLACES m.now.rows ((q0 + V.PLACES) ∷ q1 ∷ []) bits v.old v.new }
 {
     match q1 {
         0 => high_low_moved::<V, 0>(v, qubits, q0, bits, m),
@@ -126,20 +139,34 @@ fn high_low_placed<V: Vector>(
     }
 }
 
-/// `low_high_blocks`, for any matrix.
-fn low_high_any<V: Vector>(v: &mut [Block<V>], qubits: u32, q0: u32, q1: u32, bits: u32, m: &Mat4)
-    requires few { qubits ≤ max_part_qubits }
-    requires blocks { length v.old ≡ 2 ^ qubits }
+/// `low_high_blocks`, with all that it promises in one fact.
+#[inline(always)]
+fn low_high_passed<V: Vector>(
+    v: &mut [Block<V>],
+    qubits: u32,
+    q0: u32,
+    q1: u32,
+    bits: u32,
+    m: &Mat4,
+)
+    requires blocks { AreBlocks V.lanes V.PLACES V.ROOM qubits bits v.old }
     requires first { q0 < V.PLACES }
     requires second { q1 < qubits }
     requires single { IsTrue (are_single m.now.rows) }
-    requires room { bits < V.ROOM }
-    requires bounded { All (IsBlock V.lanes (2 ^ V.PLACES) bits) v.old }
-    ensures exact { numbers V.lanes V.PLACES v.new ≡ applied_list (number_in m.now.rows) (q0 ∷ (q1 + V.PLACES) ∷ []) (numbers V.lanes V.PLACES v.old) }
-    ensures bounded { All (IsBlock V.lanes (2 ^ V.PLACES) bits) v.new }
-    ensures len { length v.new ≡ length v.old }
+    ensures { IsPassed V.lanes V.PLACES m.now.rows (q0 ∷ (q1 + V.PLACES) ∷ []) bits v.old v.new }
 {
     low_high_blocks(v, qubits, q0, q1, bits, m)
+}
+
+/// `low_high_blocks`, for any matrix.
+fn low_high_any<V: Vector>(v: &mut [Block<V>], qubits: u32, q0: u32, q1: u32, bits: u32, m: &Mat4)
+    requires blocks { AreBlocks V.lanes V.PLACES V.ROOM qubits bits v.old }
+    requires first { q0 < V.PLACES }
+    requires second { q1 < qubits }
+    requires single { IsTrue (are_single m.now.rows) }
+    ensures { IsPassed V.lanes V.PLACES m.now.rows (q0 ∷ (q1 + V.PLACES) ∷ []) bits v.old v.new }
+{
+    low_high_passed(v, qubits, q0, q1, bits, m)
 }
 
 /// `low_high_blocks`, with code of its own for each usual gate.
@@ -150,31 +177,26 @@ fn low_high_moved<V: Vector, const Q: u32>(
     bits: u32,
     m: &Mat4,
 )
-    requires few { qubits ≤ max_part_qubits }
-    requires blocks { length v.old ≡ 2 ^ qubits }
+    requires blocks { AreBlocks V.lanes V.PLACES V.ROOM qubits bits v.old }
     requires first { Q < V.PLACES }
     requires second { q1 < qubits }
     requires single { IsTrue (are_single m.now.rows) }
-    requires room { bits < V.ROOM }
-    requires bounded { All (IsBlock V.lanes (2 ^ V.PLACES) bits) v.old }
-    ensures exact { numbers V.lanes V.PLACES v.new ≡ applied_list (number_in m.now.rows) (Q ∷ (q1 + V.PLACES) ∷ []) (numbers V.lanes V.PLACES v.old) }
-    ensures bounded { All (IsBlock V.lanes (2 ^ V.PLACES) bits) v.new }
-    ensures len { length v.new ≡ length v.old }
+    ensures { IsPassed V.lanes V.PLACES m.now.rows (Q ∷ (q1 + V.PLACES) ∷ []) bits v.old v.new }
 {
     if is_matrix(m, &CZ) {
-        return low_high_blocks(v, qubits, Q, q1, bits, &CZ);
+        return low_high_passed(v, qubits, Q, q1, bits, &CZ);
     }
     if is_matrix(m, &CNOT) {
-        return low_high_blocks(v, qubits, Q, q1, bits, &CNOT);
+        return low_high_passed(v, qubits, Q, q1, bits, &CNOT);
     }
     if is_matrix(m, &IS) {
-        return low_high_blocks(v, qubits, Q, q1, bits, &IS);
+        return low_high_passed(v, qubits, Q, q1, bits, &IS);
     }
     if is_matrix(m, &SW) {
-        return low_high_blocks(v, qubits, Q, q1, bits, &SW);
+        return low_high_passed(v, qubits, Q, q1, bits, &SW);
     }
     if is_matrix(m, &ID) {
-        return low_high_blocks(v, qubits, Q, q1, bits, &ID);
+        return low_high_passed(v, qubits, Q, q1, bits, &ID);
     }
     low_high_any(v, qubits, Q, q1, bits, m)
 }
@@ -188,16 +210,11 @@ fn low_high_placed<V: Vector>(
     bits: u32,
     m: &Mat4,
 )
-    requires few { qubits ≤ max_part_qubits }
-    requires blocks { length v.old ≡ 2 ^ qubits }
+    requires blocks { AreBlocks V.lanes V.PLACES V.ROOM qubits bits v.old }
     requires first { q0 < V.PLACES }
     requires second { q1 < qubits }
     requires single { IsTrue (are_single m.now.rows) }
-    requires room { bits < V.ROOM }
-    requires bounded { All (IsBlock V.lanes (2 ^ V.PLACES) bits) v.old }
-    ensures exact { numbers V.lanes V.PLACES v.new ≡ applied_list (number_in m.now.rows) (q0 ∷ (q1 + V.PLACES) ∷ []) (numbers V.lanes V.PLACES v.old) }
-    ensures bounded { All (IsBlock V.lanes (2 ^ V.PLACES) bits) v.new }
-    ensures len { length v.new ≡ length v.old }
+    ensures { IsPassed V.lanes V.PLACES m.now.rows (q0 ∷ (q1 + V.PLACES) ∷ []) bits v.old v.new }
 {
     match q0 {
         0 => low_high_moved::<V, 0>(v, qubits, q1, bits, m),
@@ -205,6 +222,20 @@ fn low_high_placed<V: Vector>(
         2 => low_high_moved::<V, 2>(v, qubits, q1, bits, m),
         _ => low_high_moved::<V, 3>(v, qubits, q1, bits, m),
     }
+}
+
+/// `low_low_blocks`, with all that it promises in one fact.
+#[inline(always)]
+fn low_low_passed<V: Vector>(v: &mut [Block<V>], q0: u32, q1: u32, bits: u32, m: &Mat4)
+    requires first { q0 < V.PLACES }
+    requires second { q1 < V.PLACES }
+    requires apart { q0 ≢ q1 }
+    requires single { IsTrue (are_single m.now.rows) }
+    requires room { bits < V.ROOM }
+    requires bounded { All (IsBlock V.lanes (2 ^ V.PLACES) bits) v.old }
+    ensures { IsPassed V.lanes V.PLACES m.now.rows (q0 ∷ q1 ∷ []) bits v.old v.new }
+{
+    low_low_blocks(v, q0, q1, bits, m)
 }
 
 /// `low_low_blocks`, for any matrix.
@@ -215,11 +246,9 @@ fn low_low_any<V: Vector>(v: &mut [Block<V>], q0: u32, q1: u32, bits: u32, m: &M
     requires single { IsTrue (are_single m.now.rows) }
     requires room { bits < V.ROOM }
     requires bounded { All (IsBlock V.lanes (2 ^ V.PLACES) bits) v.old }
-    ensures exact { numbers V.lanes V.PLACES v.new ≡ applied_list (number_in m.now.rows) (q0 ∷ q1 ∷ []) (numbers V.lanes V.PLACES v.old) }
-    ensures bounded { All (IsBlock V.lanes (2 ^ V.PLACES) bits) v.new }
-    ensures len { length v.new ≡ length v.old }
+    ensures { IsPassed V.lanes V.PLACES m.now.rows (q0 ∷ q1 ∷ []) bits v.old v.new }
 {
-    low_low_blocks(v, q0, q1, bits, m)
+    low_low_passed(v, q0, q1, bits, m)
 }
 
 /// `low_low_blocks`, with code of its own for each usual gate.
@@ -230,24 +259,22 @@ fn low_low_moved<V: Vector, const P: u32, const Q: u32>(v: &mut [Block<V>], bits
     requires single { IsTrue (are_single m.now.rows) }
     requires room { bits < V.ROOM }
     requires bounded { All (IsBlock V.lanes (2 ^ V.PLACES) bits) v.old }
-    ensures exact { numbers V.lanes V.PLACES v.new ≡ applied_list (number_in m.now.rows) (P ∷ Q ∷ []) (numbers V.lanes V.PLACES v.old) }
-    ensures bounded { All (IsBlock V.lanes (2 ^ V.PLACES) bits) v.new }
-    ensures len { length v.new ≡ length v.old }
+    ensures { IsPassed V.lanes V.PLACES m.now.rows (P ∷ Q ∷ []) bits v.old v.new }
 {
     if is_matrix(m, &CZ) {
-        return low_low_blocks(v, P, Q, bits, &CZ);
+        return low_low_passed(v, P, Q, bits, &CZ);
     }
     if is_matrix(m, &CNOT) {
-        return low_low_blocks(v, P, Q, bits, &CNOT);
+        return low_low_passed(v, P, Q, bits, &CNOT);
     }
     if is_matrix(m, &IS) {
-        return low_low_blocks(v, P, Q, bits, &IS);
+        return low_low_passed(v, P, Q, bits, &IS);
     }
     if is_matrix(m, &SW) {
-        return low_low_blocks(v, P, Q, bits, &SW);
+        return low_low_passed(v, P, Q, bits, &SW);
     }
     if is_matrix(m, &ID) {
-        return low_low_blocks(v, P, Q, bits, &ID);
+        return low_low_passed(v, P, Q, bits, &ID);
     }
     low_low_any(v, P, Q, bits, m)
 }
@@ -260,9 +287,7 @@ fn low_low_second<V: Vector, const P: u32>(v: &mut [Block<V>], q1: u32, bits: u3
     requires single { IsTrue (are_single m.now.rows) }
     requires room { bits < V.ROOM }
     requires bounded { All (IsBlock V.lanes (2 ^ V.PLACES) bits) v.old }
-    ensures exact { numbers V.lanes V.PLACES v.new ≡ applied_list (number_in m.now.rows) (P ∷ q1 ∷ []) (numbers V.lanes V.PLACES v.old) }
-    ensures bounded { All (IsBlock V.lanes (2 ^ V.PLACES) bits) v.new }
-    ensures len { length v.new ≡ length v.old }
+    ensures { IsPassed V.lanes V.PLACES m.now.rows (P ∷ q1 ∷ []) bits v.old v.new }
 {
     match q1 {
         0 => low_low_moved::<V, P, 0>(v, bits, m),
@@ -280,9 +305,7 @@ fn low_low_placed<V: Vector>(v: &mut [Block<V>], q0: u32, q1: u32, bits: u32, m:
     requires single { IsTrue (are_single m.now.rows) }
     requires room { bits < V.ROOM }
     requires bounded { All (IsBlock V.lanes (2 ^ V.PLACES) bits) v.old }
-    ensures exact { numbers V.lanes V.PLACES v.new ≡ applied_list (number_in m.now.rows) (q0 ∷ q1 ∷ []) (numbers V.lanes V.PLACES v.old) }
-    ensures bounded { All (IsBlock V.lanes (2 ^ V.PLACES) bits) v.new }
-    ensures len { length v.new ≡ length v.old }
+    ensures { IsPassed V.lanes V.PLACES m.now.rows (q0 ∷ q1 ∷ []) bits v.old v.new }
 {
     match q0 {
         0 => low_low_second::<V, 0>(v, q1, bits, m),
