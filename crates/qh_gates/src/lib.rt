@@ -13,6 +13,3 @@ pub use circuit::Circuit;
 pub use gate::{Gate, GateFault};
 pub use kind::{Kind, arity, kind_of, matrix1, matrix2, name_of, scaled};
 pub use term::{Term, TermList, terms, terms_add_up};
-
-#[cfg(test)]
-mod tests;

@@ -2,6 +2,7 @@
 
 mod columns;
 mod drawn;
+mod kernel;
 mod limits;
 mod runs;
 mod steps;

@@ -25,6 +25,3 @@ pub use kernels::{apply1, apply2};
 pub use lanes::Vector;
 pub use over::Over;
 pub use vector::ground_vector;
-
-#[cfg(test)]
-mod tests;

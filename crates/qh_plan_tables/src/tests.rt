@@ -3,6 +3,7 @@
 mod bits;
 mod circuit;
 mod decimal;
+mod gates;
 mod generated;
 mod job_text;
 mod lines;

@@ -1,5 +1,5 @@
 //! The table against what is known of the gates, and each fault of a gate.
-use crate::{
+use qh_gates::{
     Circuit, Gate, GateFault, Kind, arity, kind_of, matrix1, matrix2, name_of, scaled, terms,
 };
 use qh_limits::COEFFICIENT_BITS;

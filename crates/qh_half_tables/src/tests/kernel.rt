@@ -2,10 +2,9 @@
 ghost use Rattle.std.specs.Prelude.{◌↔◌, All, IsTrue};
 ghost use Rattle.qh_limits.specs.Limits.{coefficient_bits};
 ghost use Rattle.qh_ring.specs.Numbers.{IsWithin};
-ghost use Rattle.qh_kernel.specs.Rows.{are_single};
+ghost use Rattle.qh_kernel.specs.Rows.{is_single, are_single};
 
-use crate::sources::is_single_row;
-use crate::{Over, apply1, apply2, ground_vector};
+use qh_kernel::{Over, apply1, apply2, ground_vector};
 use qh_limits::COEFFICIENT_BITS;
 use qh_ring::{Entry, Mat2, Mat4, Omega, within};
 use std::test::Fail;
@@ -30,6 +29,13 @@ fn all_within(v: &[Omega]) -> bool
     ensures { IsTrue result ↔ All (IsWithin coefficient_bits) v.now }
 {
     v.iter().all(|z| within(z, COEFFICIENT_BITS))
+}
+
+/// Whether the row has at most one entry other than Zero.
+fn is_single_row(row: &[Entry; 4]) -> bool
+    ensures { IsTrue result ↔ IsTrue (is_single row.now) }
+{
+    row.iter().filter(|entry| **entry != Entry::Zero).count() <= 1
 }
 
 fn are_single_rows(m: &Mat4) -> bool
